@@ -1,0 +1,2 @@
+-- What holds of the format as a whole.
+use Prim.Native.Nat.{ℕ}
