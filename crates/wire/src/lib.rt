@@ -3,6 +3,7 @@ mod message;
 mod names;
 mod reading;
 mod refusal;
+mod writing;
 
 pub use message::Message;
 pub use message::Part;
@@ -12,4 +13,7 @@ pub use names::Name;
 pub use names::RoundNumber;
 pub use names::Stamp;
 pub use names::Tally;
+pub use reading::Received;
+pub use reading::read;
 pub use refusal::Refusal;
+pub use writing::write;

@@ -1,4 +1,5 @@
 ghost use mathlib.Core.Path.{_≡_};
+ghost use lib.ListN.{drop};
 ghost use Rattle.wire.specs.Format.{decode, askOf, giveOf, wordOf, tellingOf, asTelling, asAnswer, roundOf, replyOf, completeOf, partOf, numbers, rising};
 ghost use Rattle.std.specs.Results.{Cases};
 ghost use Rattle.std.specs.declared.result.Result.the-variants.{Ok, Err};
@@ -17,6 +18,28 @@ use crate::refusal::Refusal;
 pub struct Received<'a> {
     pub message: Message,
     pub objects: &'a [u8],
+}
+
+// What these bytes say among `houses` houses.
+pub fn read(bytes: &[u8], houses: u8) -> Result<Received<'_>, Refusal>
+    ensures value { λ r. ⌜ Cases r (λ x. (Ok (x .message) ≡ decode houses (now (bytes .entry))) × (now (x .objects) ≡ partOf (x .message) (now (bytes .entry)))) (λ e. Err e ≡ decode houses (now (bytes .entry))) ⌝ }
+{
+    let message = decoded(bytes, houses)?;
+    match message {
+        Message::Word {
+            from: _,
+            to: _,
+            stamp: _,
+            objects,
+        } => Ok(Received {
+            message,
+            objects: part(bytes, objects.at),
+        }),
+        _ => Ok(Received {
+            message,
+            objects: &[],
+        }),
+    }
 }
 
 // The message that these bytes are, among `houses` houses.
@@ -77,7 +100,7 @@ fn give(bytes: &[u8], houses: u8) -> Result<Message, Refusal>
 fn word(bytes: &[u8], houses: u8) -> Result<Message, Refusal>
     ensures { λ r. ⌜ r ≡ wordOf houses (now (bytes .entry)) ⌝ }
 {
-    let [_, from, to, a, b, c, d, e, f, objects @ ..] = bytes else {
+    let [_, from, to, a, b, c, d, e, f, ..] = bytes else {
         return Err(Refusal::Malformed);
     };
     let stamp = Stamp(u32::from_be_bytes([*a, *b, *c, *d]));
@@ -85,7 +108,7 @@ fn word(bytes: &[u8], houses: u8) -> Result<Message, Refusal>
     if bytes.len() != 9 + 4 * count as usize || *from >= houses || *to >= houses {
         return Err(Refusal::Malformed);
     }
-    if !rises(objects, *to) {
+    if !rises(part(bytes, 9), *to) {
         return Err(Refusal::Malformed);
     }
     Ok(Message::Word {
@@ -94,6 +117,13 @@ fn word(bytes: &[u8], houses: u8) -> Result<Message, Refusal>
         stamp,
         objects: Part { at: 9, count },
     })
+}
+
+// The bytes from this place on.
+fn part(bytes: &[u8], at: usize) -> &[u8]
+    ensures { λ r. ⌜ now r ≡ drop at (now (bytes .entry)) ⌝ }
+{
+    if at < bytes.len() { &bytes[at..] } else { &[] }
 }
 
 // Whether the objects of a part rise and live in house `to`.
