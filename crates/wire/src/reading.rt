@@ -1,7 +1,9 @@
 ghost use mathlib.Core.Path.{_≡_};
 ghost use lib.ListN.{drop};
 ghost use Rattle.wire.specs.Format.{decode, askOf, giveOf, wordOf, tellingOf, asTelling, asAnswer, roundOf, replyOf, completeOf, partOf, numbers, rising};
+ghost use Rattle.wire.specs.Laws.{Unique};
 ghost use Rattle.std.specs.Results.{Cases};
+ghost use Rattle.std.specs.Vec.{made};
 ghost use Rattle.std.specs.declared.result.Result.the-variants.{Ok, Err};
 use crate::message::Message;
 use crate::message::Part;
@@ -23,6 +25,7 @@ pub struct Received<'a> {
 // What these bytes say among `houses` houses.
 pub fn read(bytes: &[u8], houses: u8) -> Result<Received<'_>, Refusal>
     ensures value { λ r. ⌜ Cases r (λ x. (Ok (x .message) ≡ decode houses (now (bytes .entry))) × (now (x .objects) ≡ partOf (x .message) (now (bytes .entry)))) (λ e. Err e ≡ decode houses (now (bytes .entry))) ⌝ }
+    ensures unique { λ r. ⌜ made r (λ x. Unique houses (now (bytes .entry)) (x .message)) ⌝ }
 {
     let message = decoded(bytes, houses)?;
     match message {

@@ -6,6 +6,7 @@ ghost use lib.ListN.{length};
 ghost use Rattle.std.specs.Of.Vec.{vec-items, vec-len, vec-cap};
 ghost use Rattle.std.specs.Results.{isOk};
 ghost use Rattle.wire.specs.Format.{headOf, encode};
+ghost use Rattle.wire.specs.Laws.{ReadsBack};
 ghost use Rattle.wire.specs.declared.message.Message.the-variants.{Reply};
 use crate::message::Message;
 use crate::names::Census;
@@ -116,6 +117,7 @@ fn write_head(message: Message, out: &mut Vec<u8>) -> Result<(), AllocError>
 pub fn write(message: Message, objects: &[u8], out: &mut Vec<u8>) -> Result<(), AllocError>
     ensures bytes { λ r. ⌜ vec-items (now (out .exit)) ≡ cond (isOk r) (vec-items (now (out .entry)) ++ encode message (now (objects .entry))) (vec-items (now (out .entry))) ⌝ }
     ensures succeeds { λ r. ⌜ (vec-len (now (out .entry)) + (15 + length (now (objects .entry))) ≤ vec-cap (now (out .entry)) → isOk r ≡ true) ⌝ }
+    ensures read_back { λ r. ⌜ ReadsBack message (now (objects .entry)) ⌝ }
 {
     let Some(size) = objects.len().checked_add(15) else {
         return Err(AllocError);
