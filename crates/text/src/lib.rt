@@ -1,0 +1,2 @@
+// The text language of the programs: words, decimal numbers, hexadecimal, and the lines that are made of them.
+mod words;
