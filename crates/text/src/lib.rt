@@ -1,2 +1,3 @@
 // The text language of the programs: words, decimal numbers, hexadecimal, and the lines that are made of them.
+mod numbers;
 mod words;
