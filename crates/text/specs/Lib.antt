@@ -1,3 +1,5 @@
 pub mod Words
 pub mod Numbers
 pub mod Hex
+pub mod Calls
+pub mod Lines
