@@ -57,7 +57,11 @@ numbers (a ∷ b ∷ []) = []
 numbers (a ∷ b ∷ c ∷ []) = []
 numbers (a ∷ b ∷ c ∷ d ∷ rest) = number a b c d ∷ numbers rest
 
--- each object is above the one before and above `low`, and lives in this house
+-- an object of house `to` that is above `low`
+abbrev pub follows : ℕ → ℕ → ℕ → Bool
+follows to low o = ltb low o && eqb (o % 16) to
+
+-- each object is above the one before and above `low`, and lives in house `to`
 unfoldable pub rising : ℕ → ℕ → List ℕ → Bool
 rising to low [] = true
 rising to low (o ∷ os) = ltb low o && (eqb (o % 16) to && rising to o os)

@@ -1,7 +1,7 @@
 ghost use mathlib.Core.Path.{_≡_};
 ghost use lib.ListN.{drop};
-ghost use Rattle.wire.specs.Format.{decode, askOf, giveOf, wordOf, tellingOf, asTelling, asAnswer, roundOf, replyOf, completeOf, partOf, numbers, rising};
-ghost use Rattle.wire.specs.Laws.{Unique};
+ghost use Rattle.wire.specs.Format.{decode, askOf, giveOf, wordOf, tellingOf, asTelling, asAnswer, roundOf, replyOf, completeOf, numbers, rising, follows};
+ghost use Rattle.wire.specs.Laws.{ReadAs, Unique};
 ghost use Rattle.std.specs.Results.{Cases};
 ghost use Rattle.std.specs.Vec.{made};
 ghost use Rattle.std.specs.declared.result.Result.the-variants.{Ok, Err};
@@ -22,10 +22,17 @@ pub struct Received<'a> {
     pub objects: &'a [u8],
 }
 
-// What these bytes say among `houses` houses.
+// What these bytes say among `houses` houses. Bytes that are read as a message are the only ones that are, and no message cut short or with more after it is read.
 pub fn read(bytes: &[u8], houses: u8) -> Result<Received<'_>, Refusal>
-    ensures value { λ r. ⌜ Cases r (λ x. (Ok (x .message) ≡ decode houses (now (bytes .entry))) × (now (x .objects) ≡ partOf (x .message) (now (bytes .entry)))) (λ e. Err e ≡ decode houses (now (bytes .entry))) ⌝ }
+    ensures value { λ r. ⌜ Cases r (λ x. ReadAs houses (now (bytes .entry)) (x .message) (now (x .objects))) (λ e. decode houses (now (bytes .entry)) ≡ Err e) ⌝ }
     ensures unique { λ r. ⌜ made r (λ x. Unique houses (now (bytes .entry)) (x .message)) ⌝ }
+{
+    with_objects(bytes, houses)
+}
+
+// The message with its objects beside it.
+fn with_objects(bytes: &[u8], houses: u8) -> Result<Received<'_>, Refusal>
+    ensures { λ r. ⌜ Cases r (λ x. ReadAs houses (now (bytes .entry)) (x .message) (now (x .objects))) (λ e. decode houses (now (bytes .entry)) ≡ Err e) ⌝ }
 {
     let message = decoded(bytes, houses)?;
     match message {
@@ -129,6 +136,13 @@ fn part(bytes: &[u8], at: usize) -> &[u8]
     if at < bytes.len() { &bytes[at..] } else { &[] }
 }
 
+// Whether an object of house `to` comes after one with the name `low`.
+fn is_next(low: u32, object: u32, to: u8) -> bool
+    ensures { λ r. ⌜ r ≡ follows to low object ⌝ }
+{
+    low < object && object % 16 == to as u32
+}
+
 // Whether the objects of a part rise and live in house `to`.
 fn rises(objects: &[u8], to: u8) -> bool
     ensures { λ r. ⌜ r ≡ rising to 15 (numbers (now (objects .entry))) ⌝ }
@@ -137,7 +151,7 @@ fn rises(objects: &[u8], to: u8) -> bool
     let mut rest = objects;
     while let [a, b, c, d, more @ ..] = rest {
         let object = u32::from_be_bytes([*a, *b, *c, *d]);
-        if object <= low || object % 16 != to as u32 {
+        if !is_next(low, object, to) {
             return false;
         }
         low = object;

@@ -1,28 +1,31 @@
-use mathlib.Core.Path.{sym, ap, _∙_}
+use mathlib.Core.Path.{_≡_}
+use mathlib.Core.List.{List}
 use Prim.Native.Nat.{ℕ, _<_}
 use native.Mathlib.Omega.{arith}
-use borrow.Author.Needs.{needs}
 use mir.Val.{Fits}
 use mir.Syntax.{w8}
 use lib.ListN.{getD}
-use mathlib.Core.List.{List}
-use Rattle.std.specs.declared.result.Result.the-variants.{Ok}
-use Rattle.wire.specs.Laws.{Bytes}
+use Rattle.std.specs.Results.{Cases}
+use Rattle.std.specs.Vec.{made}
+use Rattle.std.specs.declared.result.Result.{Result}
+use Rattle.std.specs.declared.result.Result.the-variants.{Ok, Err}
+use Rattle.wire.specs.declared.reading.Received.{Received}
+use Rattle.wire.specs.declared.refusal.Refusal.{Refusal}
+use Rattle.wire.specs.Format.{decode}
+use Rattle.wire.specs.Laws.{Bytes, ReadAs, Unique}
 use Rattle.wire.proofs.Shapes.{unique}
 use Rattle.wire.proofs.reading.read.Needs as need
 
 below : (x : ℕ) → Fits w8 x → x < 256
 below x f = omega arith
 
-bytes : (xs : List ℕ) → ((i : ℕ) → Fits w8 (getD xs i 0)) → Bytes xs
-bytes xs f k = below (getD xs k 0) (f k)
+each : (n : ℕ) (bs : List ℕ) (r : Result Received Refusal) → Bytes bs → Cases r (λ x. ReadAs n bs (x .message) (x .objects .now)) (λ e. decode n bs ≡ Err e) → made r (λ x. Unique n bs (x .message))
+each n bs (Ok x) bytes h = unique n bs (x .message) bytes (h .message)
+each n bs (Err e) bytes h = tt
 
-pub returns-in-Word : need.returns-in-Word
-returns-in-Word c =
+pub returns : need.returns
+returns c =
     record {
-      value = search needs;
-      unique = unique (c .args .houses) (c .args .bytes .now) _ (bytes (c .args .bytes .now) (c .typed .bytes)) (sym (c .in-Continue-message .ensures tt) ∙ ap Ok (c .in-Word .is));
+      value = c .with-objects .ensures;
+      unique = each (c .args .houses) (c .args .bytes .now) (c .with-objects .result) (λ k. below _ (c .typed .bytes k)) (c .with-objects .ensures);
     }
-
-pub returns-in-rest : need.returns-in-rest
-returns-in-rest c = record { value = search needs; unique = unique (c .args .houses) (c .args .bytes .now) _ (bytes (c .args .bytes .now) (c .typed .bytes)) (sym (c .in-Continue-message .ensures tt)) }

@@ -1,25 +1,23 @@
-use mathlib.Core.Path.{_≡_, refl, sym, ap, _∙_}
+use mathlib.Core.Path.{_≡_, sym, _∙_}
 use Prim.Native.Nat.{_≤_, _<_}
 use lib.ListN.{length}
 use native.Mathlib.Omega.{arith}
 use borrow.Author.Tests.{ltb-true, ltb-false}
-use Rattle.wire.proofs.Parts.{rising-low, rising-far, rising-more, rising-none}
+use Rattle.wire.proofs.Parts.{rising-stop, rising-more, rising-none}
 use Rattle.wire.proofs.reading.rises.Needs as need
-use Rattle.wire.proofs.reading.rises.Needs.{then-object-low·by·then-object-low, then-object-low·by·else-object-low·then-object-to}
 
-pub returns-then-object-low : need.returns-then-object-low
-returns-then-object-low c =
+pub returns-then-not-is-next : need.returns-then-not-is-next
+returns-then-not-is-next c =
     let h : 4 ≤ length (c .loop-rest .rest .now) = omega (arith, ltb-false) in
-    let xs = c .loop-rest .rest .now in
-    sym (c .loop-rest .inv ∙ elim (c .then-object-low .came) [
-      | then-object-low·by·then-object-low w ↦ rising-low (c .args .to) (c .loop-rest .low) (c .from-be-bytes-object .result) xs h (c .from-be-bytes-object .ensures) (w .if-object-low .taken)
-      | then-object-low·by·else-object-low·then-object-to w ↦ rising-far (c .args .to) (c .loop-rest .low) (c .from-be-bytes-object .result) xs h (c .from-be-bytes-object .ensures) (w .if-object-to .taken)
-    ])
+    sym
+    (c .loop-rest .inv
+    ∙ rising-stop (c .args .to) (c .loop-rest .low) (c .from-be-bytes-object .result) (c .loop-rest .rest .now) h (c .from-be-bytes-object .ensures) (sym (c .if-not-is-next .ensures tt)))
 
 pub loop-rest-again : need.loop-rest-again
 loop-rest-again c =
     let h : 4 ≤ length (c .loop-rest .rest .now) = omega (arith, ltb-false) in
-    c .loop-rest .inv ∙ rising-more (c .args .to) (c .loop-rest .low) (c .from-be-bytes-object .result) (c .loop-rest .rest .now) h (c .from-be-bytes-object .ensures) (c .if-object-low .left) (c .if-object-to .left)
+    c .loop-rest .inv
+    ∙ rising-more (c .args .to) (c .loop-rest .low) (c .from-be-bytes-object .result) (c .loop-rest .rest .now) h (c .from-be-bytes-object .ensures) (sym (c .if-not-is-next .ensures tt))
 
 pub returns : need.returns
 returns c =
