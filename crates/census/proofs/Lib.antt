@@ -1,0 +1,5 @@
+pub mod Places
+pub mod Settling
+pub mod Counts
+pub mod Entering
+pub mod Laws

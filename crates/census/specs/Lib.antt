@@ -1,0 +1,5 @@
+pub mod Lists
+pub mod Model
+pub mod Shown
+pub mod Standings
+pub mod Laws
