@@ -10,8 +10,8 @@ use Rattle.wire.specs.declared.names.House.{House}
 use Rattle.wire.specs.declared.names.Name.{Name}
 use Rattle.text.specs.declared.calls.Command.{Command}
 use Rattle.text.specs.declared.calls.Command.the-variants as command
-use Rattle.text.specs.declared.calls.Call.{Call}
-use Rattle.text.specs.declared.calls.Call.the-variants as call
+use Rattle.wire.specs.declared.call.Call.{Call}
+use Rattle.wire.specs.declared.call.Call.the-variants as call
 use Rattle.text.specs.Words.{none}
 use Rattle.text.specs.Numbers.{decimal, capped, nameOf, houseOf}
 

@@ -9,7 +9,7 @@ use Rattle.std.specs.declared.option.Option.{Option}
 use Rattle.std.specs.declared.option.Option.the-variants.{Some, None}
 use Rattle.wire.specs.declared.names.House.{House}
 use Rattle.text.specs.declared.calls.Command.{Command}
-use Rattle.text.specs.declared.calls.Call.{Call}
+use Rattle.wire.specs.declared.call.Call.{Call}
 use Rattle.text.specs.declared.lines.Line.{Line}
 use Rattle.text.specs.declared.lines.Line.the-variants as line
 use Rattle.text.specs.declared.lines.Play.{Play}

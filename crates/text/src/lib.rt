@@ -6,7 +6,6 @@ mod numbers;
 mod output;
 mod words;
 
-pub use calls::Call;
 pub use calls::Command;
 pub use calls::read_call;
 pub use calls::read_command;

@@ -1,7 +1,6 @@
 ghost use mathlib.Core.Path.{_≡_};
 ghost use Rattle.text.specs.Words.{words};
 ghost use Rattle.text.specs.Lines.{lineSaid, orderOf, lineOf, comment, playSaid, atHouse, playOf};
-use crate::calls::Call;
 use crate::calls::read_call;
 use crate::calls::read_command;
 use crate::calls::sole_number;
@@ -10,6 +9,7 @@ use crate::numbers::house_value;
 use crate::words::first_word;
 use crate::words::is_blank;
 use crate::words::is_word;
+use wire::Call;
 use wire::House;
 
 // A line for one house.

@@ -22,14 +22,14 @@ use Rattle.wire.specs.declared.refusal.Refusal.{Refusal}
 use Rattle.wire.specs.declared.refusal.Refusal.the-variants.{Malformed}
 use Rattle.wire.specs.Names.{house, name, wellFormed}
 use Rattle.wire.specs.Format.{byteAt, u16At, u32At, houseAt, nameAt, stampAt, censusAt, roundAt, tallyAt, checked, tellingOf, askOf, giveOf, wordOf, asTelling, asAnswer, roundOf, replyOf, completeOf, decode, byFirst, encode, headOf, partOf, bytes4, bytes2, number, numbers, rising}
-use Rattle.wire.specs.Laws.{Bytes, ReadAs, Alone, Unique}
+use Rattle.wire.specs.Laws.{Bytes, Rises, ReadAs, Alone, Unique}
 use Rattle.wire.proofs.Digits.{digit1, digit2, digit3, digit4, high2, low2}
 
 -- What is known of bytes that are read as a message.
 pub data Reading (bs : List ℕ) : Message → Type 0 where
   ask : byteAt bs 0 ≡ 1 → length bs ≡ 7 → Reading bs (Ask (nameAt bs 1) (houseAt bs 5) (houseAt bs 6))
   give : byteAt bs 0 ≡ 2 → length bs ≡ 10 → Reading bs (Give (nameAt bs 1) (houseAt bs 5) (stampAt bs 6))
-  word : byteAt bs 0 ≡ 3 → 9 ≤ length bs → length bs ≡ 9 + 4 * u16At bs 7 → Reading bs (Word (houseAt bs 1) (houseAt bs 2) (stampAt bs 3) (record { at = 9; count = u16At bs 7 }))
+  word : byteAt bs 0 ≡ 3 → 9 ≤ length bs → length bs ≡ 9 + 4 * u16At bs 7 → rising (byteAt bs 2) 15 (numbers (drop 9 bs)) ≡ true → Reading bs (Word (houseAt bs 1) (houseAt bs 2) (stampAt bs 3) (record { at = 9; count = u16At bs 7 }))
   telling : byteAt bs 0 ≡ 4 → length bs ≡ 10 → Reading bs (Telling (censusAt bs 1) (nameAt bs 5) (houseAt bs 9))
   answer : byteAt bs 0 ≡ 5 → length bs ≡ 10 → Reading bs (Answer (censusAt bs 1) (nameAt bs 5) (houseAt bs 9))
   round : byteAt bs 0 ≡ 6 → length bs ≡ 9 → Reading bs (Round (censusAt bs 1) (roundAt bs 5))
@@ -64,13 +64,24 @@ reading n bs =
     pick R (eqb k 1) (askOf n bs) _ (λ t. from-checked R _ _ (λ ok. ask (eqb-true k 1 t) (size 7 _ ok)))
     (λ _. pick R (eqb k 2) (giveOf n bs) _ (λ t. from-checked R _ _ (λ ok. give (eqb-true k 2 t) (size 10 _ ok)))
     (λ _. pick R (eqb k 3) (wordOf n bs) _
-    (λ t. from-checked R _ _ (λ ok. let long = and-parts _ _ ok in word (eqb-true k 3 t) (leb-true 9 (length bs) (long .0)) (size (9 + 4 * u16At bs 7) _ (long .1))))
+    (λ t. from-checked R _ _ (λ ok. let long = and-parts _ _ ok in word (eqb-true k 3 t) (leb-true 9 (length bs) (long .0)) (size (9 + 4 * u16At bs 7) _ (long .1))
+    (and-parts (ltb (byteAt bs 2) n) _ (and-parts (ltb (byteAt bs 1) n) _ (and-parts (eqb (length bs) (9 + 4 * u16At bs 7)) _ (long .1) .1) .1) .1)))
     (λ _. pick R (eqb k 4) (asTelling (tellingOf n bs)) _ (λ t. from-telling R _ _ (λ ok. telling (eqb-true k 4 t) (size 10 _ ok)))
     (λ _. pick R (eqb k 5) (asAnswer (tellingOf n bs)) _ (λ t. from-answer R _ _ (λ ok. answer (eqb-true k 5 t) (size 10 _ ok)))
     (λ _. pick R (eqb k 6) (roundOf bs) _ (λ t. from-checked R _ _ (λ ok. round (eqb-true k 6 t) (eqb-true (length bs) 9 ok)))
     (λ _. pick R (eqb k 7) (replyOf n bs) _
     (λ t. from-checked R _ _ (λ ok. reply (eqb-true k 7 t) (size 15 _ ok) (ltb-true (byteAt bs 10) 2 (and-parts (ltb (byteAt bs 9) n) _ (and-parts (eqb (length bs) 15) _ ok .1) .1))))
     (λ _. pick R (eqb k 8) (completeOf bs) _ (λ t. from-checked R _ _ (λ ok. complete (eqb-true k 8 t) (eqb-true (length bs) 5 ok))) (λ _ m e. never m e))))))))
+
+pub rises : (bs : List ℕ) (m : Message) → Reading bs m → Rises m (partOf m bs)
+rises bs m (ask p q) = tt
+rises bs m (give p q) = tt
+rises bs m (word p l q r) = r
+rises bs m (telling p q) = tt
+rises bs m (answer p q) = tt
+rises bs m (round p q) = tt
+rises bs m (reply p q s) = tt
+rises bs m (complete p q) = tt
 
 -- k bytes from place i on
 abbrev from : List ℕ → ℕ → ℕ → List ℕ
@@ -118,7 +129,7 @@ module _ (bs : List ℕ) (bytes : Bytes bs) where
   pub form : (m : Message) → Reading bs m → encode m (partOf m bs) ≡ bs
   form m (ask p q) = rw (b1 1, b2 1, b3 1, b4 1) (sealed bs 6 1 [] (omega arith) p (none-left 7 q))
   form m (give p q) = rw (b1 1, b2 1, b3 1, b4 1, b1 6, b2 6, b3 6, b4 6) (sealed bs 9 2 [] (omega arith) p (none-left 10 q))
-  form m (word p l q) = rw (b1 3, b2 3, b3 3, b4 3, high2 _ _ (bytes 7) (bytes 8), low2 _ _ (bytes 7) (bytes 8)) (sealed bs 8 3 (drop 9 bs) (omega arith) p refl)
+  form m (word p l q r) = rw (b1 3, b2 3, b3 3, b4 3, high2 _ _ (bytes 7) (bytes 8), low2 _ _ (bytes 7) (bytes 8)) (sealed bs 8 3 (drop 9 bs) (omega arith) p refl)
   form m (telling p q) = rw (b1 1, b2 1, b3 1, b4 1, b1 5, b2 5, b3 5, b4 5) (sealed bs 9 4 [] (omega arith) p (none-left 10 q))
   form m (answer p q) = rw (b1 1, b2 1, b3 1, b4 1, b1 5, b2 5, b3 5, b4 5) (sealed bs 9 5 [] (omega arith) p (none-left 10 q))
   form m (round p q) = rw (b1 1, b2 1, b3 1, b4 1, b1 5, b2 5, b3 5, b4 5) (sealed bs 8 6 [] (omega arith) p (none-left 9 q))
@@ -144,7 +155,7 @@ other-first bs k p ne q = absurd (ne (sym p ∙ q))
 long : (bs : List ℕ) (m : Message) → Reading bs m → Long bs
 long bs m (ask p q) = record { is = rw p q; some = omega arith; word = other-first bs 1 p (λ e. omega arith) }
 long bs m (give p q) = record { is = rw p q; some = omega arith; word = other-first bs 2 p (λ e. omega arith) }
-long bs m (word p l q) = record { is = rw p q; some = omega arith; word = λ _. l }
+long bs m (word p l q r) = record { is = rw p q; some = omega arith; word = λ _. l }
 long bs m (telling p q) = record { is = rw p q; some = omega arith; word = other-first bs 4 p (λ e. omega arith) }
 long bs m (answer p q) = record { is = rw p q; some = omega arith; word = other-first bs 5 p (λ e. omega arith) }
 long bs m (round p q) = record { is = rw p q; some = omega arith; word = other-first bs 6 p (λ e. omega arith) }

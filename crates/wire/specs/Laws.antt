@@ -39,6 +39,17 @@ pub record ReadAs (n : ℕ) (bs : List ℕ) (m : Message) (objects : List ℕ) :
   pub message : decode n bs ≡ Ok m
   pub part : partOf m bs ≡ objects
 
+-- the objects of a word rise, and live in the house that it goes to
+abbrev pub Rises : Message → List ℕ → Type 0
+Rises (Ask o by to) objects = Unit {0}
+Rises (Give o to s) objects = Unit {0}
+Rises (Word from to s p) objects = rising (to .0) 15 (numbers objects) ≡ true
+Rises (Telling c o from) objects = Unit {0}
+Rises (Answer c o from) objects = Unit {0}
+Rises (Round c r) objects = Unit {0}
+Rises (Reply c r from calm t) objects = Unit {0}
+Rises (Complete c) objects = Unit {0}
+
 -- What is written of this message is read back, objects and all.
 abbrev pub ReadsBack : Message → List ℕ → Type 0
 ReadsBack m objects = (n : ℕ) → Valid n m objects → ReadAs n (encode m objects) m objects

@@ -1,10 +1,12 @@
-// Names, messages and refusals, and messages as bytes.
+// Names, calls, messages and refusals, and messages as bytes.
+mod call;
 mod message;
 mod names;
 mod reading;
 mod refusal;
 mod writing;
 
+pub use call::Call;
 pub use message::Message;
 pub use message::Part;
 pub use names::Census;

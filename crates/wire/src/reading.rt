@@ -1,7 +1,7 @@
 ghost use mathlib.Core.Path.{_≡_};
 ghost use lib.ListN.{drop};
 ghost use Rattle.wire.specs.Format.{decode, askOf, giveOf, wordOf, tellingOf, asTelling, asAnswer, roundOf, replyOf, completeOf, numbers, rising, follows};
-ghost use Rattle.wire.specs.Laws.{ReadAs, Unique};
+ghost use Rattle.wire.specs.Laws.{ReadAs, Rises, Unique};
 ghost use Rattle.std.specs.Results.{Cases};
 ghost use Rattle.std.specs.Vec.{made};
 ghost use Rattle.std.specs.declared.result.Result.the-variants.{Ok, Err};
@@ -25,6 +25,7 @@ pub struct Received<'a> {
 // What these bytes say among `houses` houses. Bytes that are read as a message are the only ones that are, and no message cut short or with more after it is read.
 pub fn read(bytes: &[u8], houses: u8) -> Result<Received<'_>, Refusal>
     ensures value { λ r. ⌜ Cases r (λ x. ReadAs houses (now (bytes .entry)) (x .message) (now (x .objects))) (λ e. decode houses (now (bytes .entry)) ≡ Err e) ⌝ }
+    ensures rises { λ r. ⌜ made r (λ x. Rises (x .message) (now (x .objects))) ⌝ }
     ensures unique { λ r. ⌜ made r (λ x. Unique houses (now (bytes .entry)) (x .message)) ⌝ }
 {
     with_objects(bytes, houses)

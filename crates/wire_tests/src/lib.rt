@@ -14,7 +14,12 @@ mod tests {
     const NO_OBJECTS: [u8; 0] = [];
 
     // What is written of the message is just these bytes.
-    fn writes(rt: &LibcRuntime, message: Message, objects: &[u8], bytes: &[u8]) -> Result<(), Fail> {
+    fn writes(
+        rt: &LibcRuntime,
+        message: Message,
+        objects: &[u8],
+        bytes: &[u8],
+    ) -> Result<(), Fail> {
         let mut out = Vec::new(rt.alloc());
         wire::write(message, objects, &mut out)?;
         check(out.as_slice() == bytes)
@@ -25,13 +30,29 @@ mod tests {
         // 258 = 16 · 16 + 2
         let object = Name(258);
         let census = Census(0x0102_0304);
-        let ask = Message::Ask { object, by: House(1), to: House(3) };
+        let ask = Message::Ask {
+            object,
+            by: House(1),
+            to: House(3),
+        };
         writes(&rt, ask, &NO_OBJECTS, &[1, 0, 0, 1, 2, 1, 3])?;
-        let give = Message::Give { object, to: House(3), stamp: Stamp(65536) };
+        let give = Message::Give {
+            object,
+            to: House(3),
+            stamp: Stamp(65536),
+        };
         writes(&rt, give, &NO_OBJECTS, &[2, 0, 0, 1, 2, 3, 0, 1, 0, 0])?;
-        let telling = Message::Telling { census, object, from: House(0) };
+        let telling = Message::Telling {
+            census,
+            object,
+            from: House(0),
+        };
         writes(&rt, telling, &NO_OBJECTS, &[4, 1, 2, 3, 4, 0, 0, 1, 2, 0])?;
-        let answer = Message::Answer { census, object, from: House(0) };
+        let answer = Message::Answer {
+            census,
+            object,
+            from: House(0),
+        };
         writes(&rt, answer, &NO_OBJECTS, &[5, 1, 2, 3, 4, 0, 0, 1, 2, 0])
     }
 
@@ -39,16 +60,47 @@ mod tests {
     fn messages_of_rounds(rt: LibcRuntime) -> Result<(), Fail> {
         let census = Census(1);
         let number = RoundNumber(2);
-        writes(&rt, Message::Round { census, number }, &NO_OBJECTS, &[6, 0, 0, 0, 1, 0, 0, 0, 2])?;
-        let reply = Message::Reply { census, number, from: House(3), calm: true, tally: Tally(256) };
-        writes(&rt, reply, &NO_OBJECTS, &[7, 0, 0, 0, 1, 0, 0, 0, 2, 3, 1, 0, 0, 1, 0])?;
-        writes(&rt, Message::Complete { census }, &NO_OBJECTS, &[8, 0, 0, 0, 1])
+        writes(
+            &rt,
+            Message::Round { census, number },
+            &NO_OBJECTS,
+            &[6, 0, 0, 0, 1, 0, 0, 0, 2],
+        )?;
+        let reply = Message::Reply {
+            census,
+            number,
+            from: House(3),
+            calm: true,
+            tally: Tally(256),
+        };
+        writes(
+            &rt,
+            reply,
+            &NO_OBJECTS,
+            &[7, 0, 0, 0, 1, 0, 0, 0, 2, 3, 1, 0, 0, 1, 0],
+        )?;
+        writes(
+            &rt,
+            Message::Complete { census },
+            &NO_OBJECTS,
+            &[8, 0, 0, 0, 1],
+        )
     }
 
     #[test]
     fn word_with_objects(rt: LibcRuntime) -> Result<(), Fail> {
-        let word = Message::Word { from: House(1), to: House(0), stamp: Stamp(7), objects: Part { at: 9, count: 2 } };
-        writes(&rt, word, &[0, 0, 0, 16, 0, 0, 1, 0], &[3, 1, 0, 0, 0, 0, 7, 0, 2, 0, 0, 0, 16, 0, 0, 1, 0])
+        let word = Message::Word {
+            from: House(1),
+            to: House(0),
+            stamp: Stamp(7),
+            objects: Part { at: 9, count: 2 },
+        };
+        writes(
+            &rt,
+            word,
+            &[0, 0, 0, 16, 0, 0, 1, 0],
+            &[3, 1, 0, 0, 0, 0, 7, 0, 2, 0, 0, 0, 16, 0, 0, 1, 0],
+        )
     }
 
     #[test]
@@ -57,7 +109,15 @@ mod tests {
             Ok(came) => {
                 check(came.objects == &[0, 0, 0, 16, 0, 0, 1, 0])?;
                 match came.message {
-                    Message::Word { from, to, stamp, objects } => check_eq((from.0, to.0, stamp.0, objects.at, objects.count), (1, 0, 7, 9, 2)),
+                    Message::Word {
+                        from,
+                        to,
+                        stamp,
+                        objects,
+                    } => check_eq(
+                        (from.0, to.0, stamp.0, objects.at, objects.count),
+                        (1, 0, 7, 9, 2),
+                    ),
                     _ => Err(Fail::new("another message")),
                 }
             }

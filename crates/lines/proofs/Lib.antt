@@ -1,0 +1,10 @@
+pub mod Rows
+pub mod Places
+pub mod Closing
+pub mod Numbers
+pub mod Marks
+pub mod Joining
+pub mod Gathering
+pub mod Laws
+pub mod Entering
+pub mod Keeping

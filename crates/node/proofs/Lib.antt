@@ -1,0 +1,3 @@
+pub mod Reached
+pub mod Bytes
+pub mod Polls

@@ -1,0 +1,5 @@
+pub mod Model
+pub mod Shown
+pub mod Met
+pub mod Marks
+pub mod Gathered
