@@ -1,6 +1,7 @@
 // One house: every call and every message as one step over its objects, its list, its stamps and its part in the census.
 mod calls;
 mod collecting;
+mod dispatch;
 mod head;
 mod messages;
 mod receiving;
