@@ -1,3 +1,4 @@
 pub mod Reached
 pub mod Bytes
 pub mod Polls
+pub mod Fairness

@@ -1,4 +1,5 @@
 pub mod House
 pub mod Executed
 pub mod Step
+pub mod Laws
 pub mod Shown

@@ -1,0 +1,9 @@
+-- What a house with its tables stands for.
+use Rattle.lines.specs.Columns.{model}
+use Rattle.objects.specs.Calls.{heapOf}
+use Rattle.census.specs.Standings.{partOf}
+use Rattle.node.specs.House.{House}
+use Rattle.store.specs.declared.table.Store.{Store}
+
+abbrev pub houseIn : Store → House
+houseIn s = record { heap = heapOf (s .objects); list = model (s .held) (s .holders) (s .stamps) (s .censuses) (s .len); stamps = s .head .stamps; part = partOf (s .head .standing) }

@@ -1,0 +1,5 @@
+// A house that owns its tables, and lends them for each call.
+mod steps;
+mod table;
+
+pub use table::Store;
