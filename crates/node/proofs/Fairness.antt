@@ -85,8 +85,8 @@ fair-handed o by j h =
     (fair-if (not (present o (h .heap .objects))) NotHere h _
     (fair-if (not (authorised o by h)) NotHolder h _
     (fair-cond (eqb j (self h)) h _ _
-      (fair-heap (keepAnswer o (h .heap)) (isOk (keepAnswer o (h .heap))) (rooted o (h .heap)) h refl refl)
-      (fair-if (not (fits o j (h .list) 2048)) NoRoom h _ (fair-stamped (nextFor j (h .stamps)) o j h)))))
+    (fair-heap (keepAnswer o (h .heap)) (isOk (keepAnswer o (h .heap))) (rooted o (h .heap)) h refl refl)
+    (fair-if (not (fits o j (h .list) 2048)) NoRoom h _ (fair-stamped (nextFor j (h .stamps)) o j h)))))
 
 fair-receives : (m : Message) (part : List ℕ) (h : House) → Fair h (receives m part h)
 fair-receives (message.Ask o by j) part h = fair-handed (o .0) (by .0) (j .0) h

@@ -20,7 +20,11 @@ impl Head {
         ensures stamps { λ r. ⌜ r .stamps ≡ unstamped ⌝ }
         ensures part { λ r. ⌜ partOf (r .standing) ≡ fresh 0 ⌝ }
     {
-        Head { heap, stamps: Stamps::new(), standing: Standing::new(heap) }
+        Head {
+            heap,
+            stamps: Stamps::new(),
+            standing: Standing::new(heap),
+        }
     }
 
     // A call of the house's programs, or of its collector.
