@@ -13,6 +13,7 @@ use lines::Stamps;
 use objects::Objects;
 use std::alloc::Global;
 use wire::Call;
+use wire::Census;
 
 impl Head {
     // Nothing given, seen, heard or told yet.
@@ -25,6 +26,13 @@ impl Head {
             stamps: Stamps::new(),
             standing: Standing::new(heap),
         }
+    }
+
+    // The census that the house is in.
+    pub fn census(&self) -> Census
+        ensures { λ r. ⌜ r .0 ≡ partOf (now (self .entry) .standing) .census ⌝ }
+    {
+        self.standing.census()
     }
 
     // A call of the house's programs, or of its collector.
