@@ -3,3 +3,4 @@ pub mod Executed
 pub mod Step
 pub mod Laws
 pub mod Shown
+pub mod Recipients

@@ -5,8 +5,11 @@ mod dispatch;
 mod head;
 mod messages;
 mod receiving;
+mod recipients;
 mod sent;
 
 pub use head::Head;
+pub use recipients::goes_to;
 pub use sent::Answer;
+pub use sent::Recipient;
 pub use sent::Sent;

@@ -23,3 +23,10 @@ pub enum Answer {
     // nothing was done, for want of memory
     NoMemory,
 }
+
+// Whom a message is for.
+#[derive(Clone, Copy)]
+pub enum Recipient {
+    One(House),
+    Every,
+}

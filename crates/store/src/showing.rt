@@ -1,5 +1,6 @@
 ghost use mathlib.Core.Path.{_≡_};
 ghost use Rattle.tables.specs.Shown.{numbers, objectsOf};
+ghost use Rattle.lines.specs.Lists.{lineAt};
 ghost use Rattle.node.specs.House.{census};
 ghost use Rattle.store.specs.Stores.{houseIn};
 use crate::table::Store;
@@ -34,6 +35,7 @@ impl Store {
 
     // The line of the list at place `i`.
     pub fn line(&self, i: usize) -> Option<Line>
+        ensures { λ r. ⌜ r ≡ lineAt i (houseIn (now (self .entry)) .list) ⌝ }
     {
         if i >= self.len {
             return None;
