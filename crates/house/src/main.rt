@@ -8,7 +8,8 @@ use text::Line;
 use wire::House;
 use wire::Refusal;
 
-const USAGE: &str = "usage: house I N   (house I of N, with N from 1 to 16 and I below N; calls on standard input)";
+const USAGE: &str =
+    "usage: house I N   (house I of N, with N from 1 to 16 and I below N; calls on standard input)";
 
 #[derive(Drop)]
 struct Own {

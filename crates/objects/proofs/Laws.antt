@@ -8,10 +8,12 @@ use native.Mathlib.Omega.{arith}
 use lib.Dec.{eqb, ltb}
 use lib.ListN.{length}
 use Rattle.std.proofs.shelf.Tests.{cases-bool, cases-eq, cases-lt, or-cases, or-parts, or-left, or-right, or-from, cond-true, cond-false, and-parts, both-ways, ltb-true, eqb-true, eqb-false, eq-eqb, ne-eqb}
-use Rattle.tables.specs.Model.{Object, Heap, isIn, present, fieldsOf, names, rising, above, without}
+use Rattle.tables.specs.Model.{Object, Heap, isIn, present, fieldsOf, names, rising, above, without, allWell, fieldsWell}
+use Rattle.wire.specs.Names.{name, wellFormed}
 use Rattle.tables.specs.Met.{Met, start, field, Some, end, kept, left, Collected, Lists, everywhere}
-use Rattle.objects.specs.Laws.{Lasting, Lone, Frees, countOf, Single, Sole}
+use Rattle.objects.specs.Laws.{Lasting, Lone, Frees, countOf, Single, Sole, Well}
 use Rattle.tables.proofs.Places.{above-out}
+use Rattle.tables.proofs.Well.{well-in, well-fields, well-append, well-everywhere}
 use Rattle.tables.proofs.Reach.{isIn-append}
 
 -- what is in some of a list is in the list
@@ -188,3 +190,14 @@ module _ where
 pub sole : (os : List ℕ) (P : ℕ → Type 0) → Lists os P → Sole os P
 unfolding In
 sole os P l qs m = same-rising qs os (m .rises) (l .rises) (λ o e. l .all o (m .only o e)) (λ o e. m .all o (l .only o e))
+
+-- what is met is named by a root, a given name or a field
+pub met-well : (h : Heap) (from : List ℕ) → allWell (h .houses) (h .roots) ≡ true → fieldsWell (h .houses) (h .objects) ≡ true → Well h from → (o : ℕ) → Met (h .objects) (h .roots ++ from) o → wellFormed (h .houses) (name o) ≡ true
+met-well h from a b w o (start e) = ⊎-elim
+    (λ t. well-in (h .houses) o (h .roots) a t)
+    (λ t. w o t)
+    (or-cases (isIn o (h .roots)) (isIn o from) (sym (isIn-append o (h .roots) from) ∙ e))
+met-well h from a b w o (field {o = x} m here e) = well-in (h .houses) o (fieldsOf x (h .objects)) (well-fields (h .houses) x (h .objects) b) e
+
+pub refers-well : (h : Heap) → allWell (h .houses) (h .roots) ≡ true → fieldsWell (h .houses) (h .objects) ≡ true → (o : ℕ) → isIn o (h .roots ++ everywhere (h .objects)) ≡ true → wellFormed (h .houses) (name o) ≡ true
+refers-well h a b o e = well-in (h .houses) o (h .roots ++ everywhere (h .objects)) (well-append (h .houses) (h .roots) (everywhere (h .objects)) a (well-everywhere (h .houses) (h .objects) b)) e

@@ -5,6 +5,7 @@ use mathlib.Core.List.{List, [], _∷_}
 use Prim.Native.Nat.{ℕ, _+_, _≤_}
 use lib.Dec.{eqb}
 use Rattle.tables.specs.Model.{Object, Heap, isIn, present, fieldsOf}
+use Rattle.wire.specs.Names.{name, wellFormed}
 use Rattle.tables.specs.Met.{Collected, Lists, everywhere}
 
 pub record Lasting (before : Heap) (from : List ℕ) (after : Heap) : Type 0 where
@@ -38,3 +39,7 @@ Single h = (o : ℕ) → countOf o (h .objects) ≤ 1
 -- and a list is told by what it lists
 abbrev pub Sole : List ℕ → (ℕ → Type 0) → Type 0
 Sole os P = (qs : List ℕ) → Lists qs P → qs ≡ os
+
+-- each can be the name of an object in one of the houses
+abbrev pub Well : Heap → List ℕ → Type 0
+Well h os = (o : ℕ) → isIn o os ≡ true → wellFormed (h .houses) (name o) ≡ true

@@ -1,8 +1,9 @@
 ghost use mathlib.Core.Path.{_≡_};
+ghost use mathlib.Core.Bool.{true};
 ghost use Prim.Native.Nat.{_<_};
 ghost use Rattle.std.specs.Of.Vec.{vec-len};
 ghost use Rattle.std.specs.Slices.{found};
-ghost use Rattle.tables.specs.Model.{isIn, present};
+ghost use Rattle.tables.specs.Model.{isIn, names, present, rising};
 ghost use Rattle.tables.specs.Shown.{numbers, objectsOf};
 ghost use Rattle.objects.specs.Laws.{Single};
 ghost use Rattle.objects.specs.Calls.{heapOf, heldAt};
@@ -43,7 +44,8 @@ impl Objects {
 
     // The roots, rising.
     pub fn roots(&self) -> &[Name]
-        ensures { λ r. ⌜ numbers (now r) ≡ heapOf (now (self .entry)) .roots ⌝ }
+        ensures value { λ r. ⌜ numbers (now r) ≡ heapOf (now (self .entry)) .roots ⌝ }
+        ensures rises { λ r. ⌜ rising (numbers (now r)) ≡ true ⌝ }
     {
         &self.roots
     }
@@ -51,6 +53,7 @@ impl Objects {
     // The objects, in rising order of their names.
     pub fn objects(&self) -> &[Object]
         ensures value { λ r. ⌜ objectsOf (now r) ≡ heapOf (now (self .entry)) .objects ⌝ }
+        ensures rises { λ r. ⌜ rising (names (objectsOf (now r))) ≡ true ⌝ }
         ensures single { λ _. ⌜ Single (heapOf (now (self .entry))) ⌝ }
     {
         &self.objects

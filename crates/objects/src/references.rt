@@ -7,7 +7,7 @@ ghost use Rattle.std.specs.Of.Vec.{vec-items};
 ghost use Rattle.std.specs.Vec.{made};
 ghost use Rattle.objects.specs.Calls.{heapOf};
 ghost use Rattle.tables.specs.Gathered.{Found};
-ghost use Rattle.objects.specs.Laws.{Sole};
+ghost use Rattle.objects.specs.Laws.{Sole, Well};
 ghost use Rattle.tables.specs.Met.{Lists, FarInUse, Refers};
 ghost use Rattle.tables.specs.Shown.{numbers};
 use crate::store::Objects;
@@ -42,6 +42,7 @@ impl Objects {
     // The references to other houses' objects that are met from the roots and the given names, each once, rising.
     pub fn in_use(&self, heap: Global, from: &[Name]) -> Result<Vec<Name>, AllocError>
         ensures names { λ r. ⌜ made r (λ v. Lists (numbers (vec-items v)) (FarInUse (heapOf (now (self .entry))) (numbers (now (from .entry))))) ⌝ }
+        ensures well { λ r. ⌜ made r (λ v. Well (heapOf (now (self .entry))) (numbers (now (from .entry))) → Well (heapOf (now (self .entry))) (numbers (vec-items v))) ⌝ }
         ensures sole { λ r. ⌜ made r (λ v. Sole (numbers (vec-items v)) (FarInUse (heapOf (now (self .entry))) (numbers (now (from .entry))))) ⌝ }
     {
         let mut marks = [false; 1024];
@@ -52,6 +53,7 @@ impl Objects {
     // The names of a house's objects that are roots or in fields here, each once, rising.
     pub fn references_of(&self, heap: Global, house: House) -> Result<Vec<Name>, AllocError>
         ensures names { λ r. ⌜ made r (λ v. Lists (numbers (vec-items v)) (Refers (heapOf (now (self .entry))) (house .0))) ⌝ }
+        ensures well { λ r. ⌜ made r (λ v. Well (heapOf (now (self .entry))) (numbers (vec-items v))) ⌝ }
         ensures sole { λ r. ⌜ made r (λ v. Sole (numbers (vec-items v)) (Refers (heapOf (now (self .entry))) (house .0))) ⌝ }
     {
         let marks = [true; 1024];

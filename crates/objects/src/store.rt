@@ -2,8 +2,8 @@ ghost use mathlib.Core.Path.{_≡_};
 ghost use mathlib.Core.Bool.{true};
 ghost use Prim.Native.Nat.{_≤_, _<_};
 ghost use Rattle.std.specs.Of.Vec.{vec-items, vec-len, vec-cap};
-ghost use Rattle.tables.specs.Model.{rising, allOwn};
-ghost use Rattle.tables.specs.Shown.{numbers, namesIn};
+ghost use Rattle.tables.specs.Model.{rising, allOwn, allWell, fieldsWell};
+ghost use Rattle.tables.specs.Shown.{numbers, namesIn, objectsOf};
 use tables::Object;
 use wire::House;
 use wire::Name;
@@ -26,4 +26,6 @@ pub struct Objects {
     ghost fewRoots: { vec-len roots ≤ 256 },
     ghost roomRoots: { 256 ≤ vec-cap roots },
     ghost orderedRoots: { rising (numbers (vec-items roots)) ≡ true },
+    ghost wellRoots: { allWell houses (numbers (vec-items roots)) ≡ true },
+    ghost wellFields: { fieldsWell houses (objectsOf (vec-items objects)) ≡ true },
 }

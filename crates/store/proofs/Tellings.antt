@@ -29,8 +29,8 @@ module _ (c : Census) (from : House) where
 
   -- one telling more
   pub told-more :
-    (ns : List Name) (i : ℕ) (d : Name) (out more : Vec (Vec ℕ Global) Global) (v : Vec ℕ Global) → i < length ns → contents out ≡ map bytesOf (tellings c from (take i ns)) → vec-items more ≡ vec-items out ++ (v ∷ []) →
-    vec-items v ≡ encode (Telling c (getD ns i d) from) [] → contents more ≡ map bytesOf (tellings c from (take (i + 1) ns))
+      (ns : List Name) (i : ℕ) (d : Name) (out more : Vec (Vec ℕ Global) Global) (v : Vec ℕ Global) → i < length ns → contents out ≡ map bytesOf (tellings c from (take i ns)) → vec-items more ≡ vec-items out ++ (v ∷ []) →
+      vec-items v ≡ encode (Telling c (getD ns i d) from) [] → contents more ≡ map bytesOf (tellings c from (take (i + 1) ns))
   unfolding written
   told-more ns i d out more v h e f g =
       let step : written (take (i + 1) ns) ≡ written (take i ns) ++ (encode (Telling c (getD ns i d) from) [] ∷ []) = ap written (take-more ns i d h) ∙ written-append (take i ns) (getD ns i d ∷ []) in

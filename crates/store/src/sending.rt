@@ -22,12 +22,25 @@ fn message_bytes(heap: Global, message: Message, objects: &[u8]) -> Result<Vec<u
     Ok(out)
 }
 
-fn telling_bytes(heap: Global, census: Census, from: House, names: &[Name]) -> Result<Vec<Vec<u8>>, AllocError>
+fn telling_bytes(
+    heap: Global,
+    census: Census,
+    from: House,
+    names: &[Name],
+) -> Result<Vec<Vec<u8>>, AllocError>
     ensures { λ r. ⌜ made r (λ v. contents v ≡ map bytesOf (tellings census from (now (names .entry)))) ⌝ }
 {
     let mut out = Vec::new(heap);
     for name in names {
-        let bytes = message_bytes(heap, Message::Telling { census, object: *name, from }, &[])?;
+        let bytes = message_bytes(
+            heap,
+            Message::Telling {
+                census,
+                object: *name,
+                from,
+            },
+            &[],
+        )?;
         out.push(bytes)?;
     }
     Ok(out)

@@ -5,3 +5,4 @@ pub mod Noted
 pub mod Passes
 pub mod Reach
 pub mod Gathers
+pub mod Well

@@ -5,6 +5,8 @@ use mathlib.Core.Logic.{_⊎_, inl, inr, ⊎-elim}
 use mathlib.Core.List.{List, [], _∷_}
 use Prim.Native.Nat.{ℕ, zero, suc, _+_, _-_, _*_, _<_, _≤_}
 use native.Mathlib.Omega.{arith}
+use native.Mathlib.Nat.{add-zero}
+use native.Mathlib.Numerals.{add-one}
 use lib.Dec.{eqb, ltb}
 use lib.ListN.{length, getD, set, take, drop}
 use Rattle.std.proofs.shelf.Tests.{eq-eqb, eqb-true, cases-bool, cases-eq, ltb-false, or-cases, or-left, or-right, cond-true, cond-false}
@@ -76,13 +78,17 @@ module _ (ns : List ℕ) (fss : List (List ℕ)) where
       (λ f. cond-false (getD ms i false) (notedAll (getD fss i []) ns ms) ms f)
       (cases-bool (getD ms i false))
 
-  pub passed-more : (i n : ℕ) (ms : List Bool) → i < n → passed ns fss i (n - i) ms ≡ passed ns fss (i + 1) (n - (i + 1)) (step i ms)
+  -- a pass over one object more
+  pub passed-push : (i n : ℕ) (ms : List Bool) → passed ns fss i (suc n) ms ≡ step (i + n) (passed ns fss i n ms)
   unfolding passed
-  passed-more i n ms h = let e : n - i ≡ suc (n - (i + 1)) = omega arith in rw e
+  passed-push i zero ms = ap (λ k. step k ms) (sym (add-zero i))
+  passed-push i (suc n) ms =
+      let e : (i + 1) + n ≡ i + suc n = omega arith in
+      passed-push (i + 1) n (step i ms) ∙ ap (λ k. step k (passed ns fss (i + 1) n (step i ms))) e
 
-  pub passed-none : (i n : ℕ) (ms : List Bool) → n ≤ i → passed ns fss i (n - i) ms ≡ ms
+  pub passed-from : (ms : List Bool) → ms ≡ passed ns fss 0 0 ms
   unfolding passed
-  passed-none i n ms h = let e : n - i ≡ 0 = omega arith in rw e
+  passed-from ms = refl
 
   pub length-passed : (i n : ℕ) (ms : List Bool) → length (passed ns fss i n ms) ≡ length ms
   unfolding passed
@@ -106,8 +112,10 @@ module _ (ns : List ℕ) (fss : List (List ℕ)) where
       )
 
   -- one turn of a pass
-  pub pass-turn : (m0 ms new : List Bool) (i n : ℕ) → i < n → new ≡ step i ms → passed ns fss 0 n m0 ≡ passed ns fss i (n - i) ms → passed ns fss 0 n m0 ≡ passed ns fss (i + 1) (n - (i + 1)) new
-  pass-turn m0 ms new i n h e inv = inv ∙ passed-more i n ms h ∙ ap (passed ns fss (i + 1) (n - (i + 1))) (sym e)
+  pub pass-turn : (m0 ms new : List Bool) (i : ℕ) → ms ≡ passed ns fss 0 i m0 → new ≡ step i ms → new ≡ passed ns fss 0 (i + 1) m0
+  pass-turn m0 ms new i inv e =
+      let z : 0 + i ≡ i = omega arith in
+      e ∙ ap (step i) inv ∙ ap (λ k. step k (passed ns fss 0 i m0)) (sym z) ∙ sym (passed-push 0 i m0) ∙ ap (λ k. passed ns fss 0 k m0) (sym (add-one i))
 
   pub rise : (i : ℕ) (ms new : List Bool) → new ≡ step i ms → count ms ≤ count new
   rise i ms new e = omega (arith, ap count e, count-step i ms)

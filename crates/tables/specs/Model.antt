@@ -1,12 +1,11 @@
 -- The objects and roots of one house, as lists of numbers: a name is a number.
-use mathlib.Core.Path.{_≡_}
 use mathlib.Core.Bool.{Bool, true, false, cond, _&&_, _||_}
-use mathlib.Core.List.{List, [], _∷_, _++_, map}
-use Prim.Native.Nat.{ℕ, zero, suc, _/_, _%_}
-use lib.Dec.{eqb, leb, ltb, T}
+use mathlib.Core.List.{List, [], _∷_, map}
+use Prim.Native.Nat.{ℕ, suc, _/_, _%_}
+use lib.Dec.{eqb, leb, ltb}
 use Rattle.std.specs.declared.option.Option.{Option}
 use Rattle.std.specs.declared.option.Option.the-variants.{Some, None}
-use lib.ListN.{length}
+use Rattle.wire.specs.Names.{name, wellFormed}
 
 pub record Object : Type 0 where
   pub name : ℕ
@@ -66,11 +65,6 @@ below o (x ∷ xs) = cond (ltb x o) (suc (below o xs)) 0
 abbrev pub placeOf : ℕ → List ℕ → Option ℕ
 placeOf o xs = cond (isIn o xs) (Some (below o xs)) None
 
--- the place of the first of a name, or the length where there is none
-abbrev pub firstAt : ℕ → List ℕ → ℕ
-firstAt p [] = 0
-firstAt p (x ∷ xs) = cond (eqb x p) 0 (suc (firstAt p xs))
-
 -- each is above o
 abbrev pub above : ℕ → List ℕ → Bool
 above o [] = true
@@ -88,6 +82,16 @@ isOwn home made o = eqb (o % 16) home && leb 1 (o / 16) && leb (o / 16) made
 abbrev pub allOwn : ℕ → ℕ → List ℕ → Bool
 allOwn home made [] = true
 allOwn home made (o ∷ os) = isOwn home made o && allOwn home made os
+
+-- names that objects in one of so many houses can have
+abbrev pub allWell : ℕ → List ℕ → Bool
+allWell houses [] = true
+allWell houses (o ∷ os) = wellFormed houses (name o) && allWell houses os
+
+-- and the fields of all objects are such names
+abbrev pub fieldsWell : ℕ → List Object → Bool
+fieldsWell houses [] = true
+fieldsWell houses (x ∷ xs) = allWell houses (x .fields) && fieldsWell houses xs
 
 abbrev pub bare : ℕ → Object
 bare o = record { name = o; fields = [] }

@@ -1,4 +1,5 @@
 // Tables in rising order of names: places in them, marks on the objects that are met, and names gathered from them.
+mod closing;
 mod fields;
 mod gathering;
 mod marking;
@@ -6,9 +7,9 @@ mod object;
 mod place;
 mod which;
 
+pub use closing::close_up;
 pub use gathering::gather;
 pub use gathering::gather_fields;
-pub use marking::close_up;
 pub use marking::mark;
 pub use object::Object;
 pub use place::NameNamed;

@@ -3,9 +3,9 @@ ghost use mathlib.Core.Bool.{true, false};
 ghost use mathlib.Core.List.{_++_};
 ghost use Prim.Native.Nat.{ℕ, _<_, _≤_};
 ghost use lib.Dec.{ltb};
-ghost use lib.ListN.{length, getD, take};
+ghost use lib.ListN.{length, getD};
 ghost use Rattle.tables.specs.Model.{rising};
-ghost use Rattle.tables.specs.Marks.{count, noted, notedAll, grown, passed, fieldLists, keptBy, Marked};
+ghost use Rattle.tables.specs.Marks.{count, noted, notedAll, grown, passed, fieldLists, Marked};
 ghost use Rattle.tables.specs.Shown.{numbers, namesIn};
 use crate::object::Object;
 use crate::place::ObjectNamed;
@@ -95,20 +95,4 @@ pub fn mark(objects: &[Object], roots: &[Name], listed: &[Name], marks: &mut [bo
             break 'passes;
         }
     }
-}
-
-// Moves the objects with a mark to the front, in their order; says how many there are.
-pub fn close_up(objects: &mut [Object], marks: &[bool]) -> usize
-    requires { ⌜ length (now objects) ≤ length (now marks) ⌝ }
-    ensures within { λ r. ⌜ r ≤ length (now (objects .entry)) ⌝ }
-    ensures front { λ r. ⌜ take r (now (objects .exit)) ≡ keptBy (now (marks .entry)) (now (objects .entry)) ⌝ }
-{
-    let mut end = 0;
-    for i in 0..objects.len() {
-        if marks[i] {
-            objects[end] = objects[i];
-            end += 1;
-        }
-    }
-    end
 }

@@ -5,8 +5,9 @@ use lib.ListN.{length}
 use native.Mathlib.Omega.{arith}
 use Rattle.tables.specs.Marks.{passed, count, fieldLists}
 use Rattle.tables.specs.Shown.{namesIn}
+use borrow.Author.Needs.{needs}
 use Rattle.tables.proofs.Noted.{added-yes, added-no}
-use Rattle.tables.proofs.Passes.{passed-none, pass-turn, rise}
+use Rattle.tables.proofs.Passes.{passed-from, pass-turn, rise}
 use Rattle.tables.proofs.marking.pass.Needs as need
 use Rattle.tables.proofs.marking.pass.Needs.{then-grow, else-grow}
 
@@ -20,7 +21,7 @@ loop-i-again c =
     let i = c .loop-i .i in
     let new = c .grow .last .marks in
     let up : count ms ≤ count new = rise ns fss i ms new (c .grow .ensures .after) in (
-      pass-turn ns fss m0 ms new i (length xs) (c .loop-i-test .taken) (c .grow .ensures .after) (c .loop-i .inv .0),
+      pass-turn ns fss m0 ms new i (c .loop-i .inv .0) (c .grow .ensures .after),
       omega (arith, up, c .loop-i .inv .1),
       elim (c .if-grow .came) [
         | then-grow w ↦ w .added-is ∙ added-yes (count m0) (count ms) (count new) (c .loop-i .inv .1) (sym (w .if-grow .taken) ∙ c .grow .ensures .added)
@@ -28,8 +29,5 @@ loop-i-again c =
       ],
     )
 
-pub returns : need.returns
-returns c = record {
-  after = sym (c .loop-i .inv .0 ∙ passed-none (namesIn (c .args .objects .now)) (fieldLists (c .args .objects .now)) (c .loop-i .i) (length (c .args .objects .now)) (c .loop-i .marks) (c .loop-i-test .left));
-  added = c .loop-i .inv .2;
-}
+pub loop-i-holds : need.loop-i-holds
+loop-i-holds c = (passed-from (namesIn (c .args .objects .now)) (fieldLists (c .args .objects .now)) (c .args .marks .now), omega arith, search needs)

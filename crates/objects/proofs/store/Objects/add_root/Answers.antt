@@ -11,9 +11,10 @@ use Rattle.std.proofs.shelf.Tests.{cond-true, cond-false, or-left, or-right, or
 use Rattle.std.specs.declared.result.Result.the-variants.{Ok, Err}
 use Rattle.wire.specs.declared.refusal.Refusal.the-variants.{NoRoom}
 use Rattle.objects.specs.Calls.{heapOf, withRoots, rootAnswer, rooted, roomy}
-use Rattle.tables.specs.Model.{rising, added, isIn}
+use Rattle.tables.specs.Model.{rising, added, isIn, allWell}
 use Rattle.tables.specs.Shown.{number, numbers}
 use Rattle.objects.proofs.Helds.{roomy-len}
+use Rattle.tables.proofs.Well.{well-added}
 use Rattle.tables.proofs.Places.{added-in, rising-added, length-added}
 use Rattle.objects.proofs.store.Objects.add_root.Needs as need
 
@@ -56,7 +57,7 @@ ghost-self c =
     let r = room c in
     let few : vec-len (c .enter .last .table) ≤ 256 =
     omega (arith, c .enter .last .table .ok .0, length-map (vec-items (c .enter .last .table)) number, ap length (r .1), length-added o (heapOf s .roots), length-map (vec-items (s .roots)) number, s .roots .ok .0, r .0) in
-    (s .sixteen, (s .inside, (s .few, (s .room, (s .ordered, (s .own, (few, (omega (arith, s .roomRoots, c .enter .ensures .capacity), (ap rising (r .1) ∙ rising-added o (heapOf s .roots) (s .orderedRoots), tt)))))))))
+    (s .sixteen, (s .inside, (s .few, (s .room, (s .ordered, (s .own, (few, (omega (arith, s .roomRoots, c .enter .ensures .capacity), (ap rising (r .1) ∙ rising-added o (heapOf s .roots) (s .orderedRoots), (ap (allWell (s .houses)) (r .1) ∙ well-added (s .houses) o (heapOf s .roots) (c .pre) (s .wellRoots), (s .wellFields, tt)))))))))))
 
 pub returns : need.returns
 returns c =

@@ -6,11 +6,12 @@ use native.Mathlib.Omega.{arith}
 use lib.ListN.{length, take, drop, getD}
 use Rattle.std.specs.Of.Vec.{vec-items, vec-len, vec-cap}
 use Rattle.std.proofs.shelf.Lists.{length-map, take-at}
-use Rattle.tables.specs.Model.{rising, allOwn, names, isIn}
+use Rattle.tables.specs.Model.{rising, allOwn, names, isIn, fieldsWell}
 use Rattle.tables.specs.Marks.{keptBy, Marked}
 use Rattle.tables.specs.Met.{Some, Met, Collected}
 use Rattle.tables.specs.Shown.{numbers, objectOf, objectsOf, namesIn, nameIn}
 use Rattle.objects.specs.Calls.{heapOf}
+use Rattle.tables.proofs.Well.{kept-well}
 use Rattle.tables.proofs.Places.{names-in}
 use Rattle.tables.proofs.Reach.{place-present}
 use Rattle.objects.proofs.Kept.{clear-all, map-kept, length-kept, rising-kept, own-kept, some-kept, kept-why, kept-in}
@@ -50,7 +51,7 @@ ghost-self c =
                 ap (allOwn (s .home .0) (s .made)) ns ∙ own-kept (s .home .0) (s .made) ms (namesIn xs) (s .own),
                 (
                   s .fewRoots,
-                  (s .roomRoots, (s .orderedRoots, tt)),
+                  (s .roomRoots, (s .orderedRoots, (s .wellRoots, (ap (fieldsWell (s .houses)) (ap objectsOf e ∙ map-kept objectOf ms xs) ∙ kept-well (s .houses) ms (objectsOf xs) (s .wellFields), tt)))),
                 ),
               ),
             ),

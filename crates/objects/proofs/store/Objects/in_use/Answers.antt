@@ -12,8 +12,8 @@ use Rattle.tables.specs.declared.which.Which.the-variants.{NotOf}
 use Rattle.tables.specs.Shown.{numbers, namesIn}
 use Rattle.objects.specs.Calls.{heapOf}
 use Rattle.objects.proofs.Kept.{clear-all}
-use Rattle.objects.specs.Laws.{Sole}
-use Rattle.objects.proofs.Laws.{sole}
+use Rattle.objects.specs.Laws.{Sole, Well}
+use Rattle.objects.proofs.Laws.{sole, met-well}
 use Rattle.objects.proofs.Sought.{far-lists}
 use Rattle.objects.proofs.store.Objects.in_use.Needs as need
 
@@ -38,5 +38,6 @@ returns c =
     (c .references .ensures) in
     record {
       names = lists;
+      well = made-weaker (c .references .result) (λ v. Lists (numbers (vec-items v)) (FarInUse (heapOf s) from)) (λ v. Well (heapOf s) from → Well (heapOf s) (numbers (vec-items v))) (λ v l w o e. met-well (heapOf s) from (s .wellRoots) (s .wellFields) w o (l .only o e .1)) lists;
       sole = made-weaker (c .references .result) (λ v. Lists (numbers (vec-items v)) (FarInUse (heapOf s) from)) (λ v. Sole (numbers (vec-items v)) (FarInUse (heapOf s) from)) (λ v l. sole (numbers (vec-items v)) (FarInUse (heapOf s) from) l) lists;
     }

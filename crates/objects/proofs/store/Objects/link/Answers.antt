@@ -8,10 +8,11 @@ use lib.Dec.{leb}
 use lib.ListN.{length}
 use Rattle.std.specs.Of.Vec.{vec-items, vec-len}
 use Rattle.std.proofs.shelf.Tests.{le-leb, lt-leb}
-use Rattle.tables.specs.Model.{fieldsOf, isIn, present, changed}
+use Rattle.tables.specs.Model.{fieldsOf, isIn, present, changed, allWell}
 use Rattle.tables.specs.Shown.{objectOf}
 use Rattle.objects.specs.Calls.{heapOf, withObjects, linkAnswer, linkedTo}
 use Rattle.std.specs.declared.result.Result.the-variants.{Ok}
+use Rattle.tables.proofs.Well.{well-append, well-one, well-fields}
 use Rattle.objects.proofs.Helds.{Held, held-facts, held-name, held-fields, put-held, accepted}
 use Rattle.tables.proofs.Table.{length-fields}
 use Rattle.objects.proofs.store.Objects.link.Needs as need
@@ -31,9 +32,11 @@ put-requires c κs =
     let s = c .args .self .now in
     let o = c .args .o .0 in
     let h = held-facts s o (c .in-Some .at) (c .in-Some .ensures tt .value) in
+    let x = c .index .result .now in
     record {
       within = c .in-Some .ensures tt .within;
       same = h .called ∙ sym (held-name s o (c .in-Some .at) h (c .index .result .now) (c .index .ensures)) ∙ ap (λ y. y .name) (sym (c .linked .ensures));
+      well = ap (λ y. allWell (s .houses) (y .fields)) (c .linked .ensures) ∙ well-append (s .houses) (objectOf x .fields) (c .args .p .0 ∷ []) (ap (allWell (s .houses)) (sym (held-fields s o (c .in-Some .at) h x (c .index .ensures))) ∙ well-fields (s .houses) o (heapOf s .objects) (s .wellFields)) (well-one (s .houses) (c .args .p .0) (search needs));
     }
 
 pub returns : need.returns

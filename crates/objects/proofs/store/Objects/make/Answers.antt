@@ -12,10 +12,11 @@ use Rattle.std.specs.declared.result.Result.the-variants.{Ok, Err}
 use Rattle.std.proofs.shelf.Lists.{length-map, map-push}
 use Rattle.std.proofs.shelf.Tests.{cond-true, ne-eqb, le-leb, lt-leb, lt-ltb, le-ltb, ltb-true, and-left, and-right, and-from, or-left, or-right, or-from}
 use Rattle.wire.specs.declared.refusal.Refusal.the-variants.{NoRoom, OutOfNumbers}
-use Rattle.wire.specs.Names.{name}
-use Rattle.tables.specs.Model.{rising, allOwn, added, bare}
+use Rattle.wire.specs.Names.{name, wellFormed}
+use Rattle.tables.specs.Model.{rising, allOwn, allWell, fieldsWell, added, bare}
 use Rattle.tables.specs.Shown.{number, numbers, objectOf, objectsOf, namesIn, nameIn}
 use Rattle.objects.specs.Calls.{heapOf, makeAnswer, madeNew, roomy}
+use Rattle.tables.proofs.Well.{well-added, well-made, pushed-well}
 use Rattle.tables.proofs.Places.{rising-added, length-added}
 use Rattle.objects.proofs.Numbering.{named-ok, named-err, rising-made, own-made}
 use Rattle.objects.proofs.Helds.{roomy-len, accepted, refusedSo}
@@ -69,6 +70,7 @@ ghost-self c =
     let on : c .in-Ok .name .0 ≡ o = ap number (q .0) in
     let kn : c .number-self .result ≡ k = c .number-self .ensures ∙ c .in-Ok .ensures tt .parts .number in
     let ns = pushed-names xs (vec-items (c .push-reserved .last .self)) (c .new-2 .result) o (c .push-reserved .ensures .items) (c .new-2 .ensures ∙ ap bare on) in
+    let os = pushed-objects xs (vec-items (c .push-reserved .last .self)) (c .new-2 .result) o (c .push-reserved .ensures .items) (c .new-2 .ensures ∙ ap bare on) in
     let up : s .made < k = c .if-number-self .left in
     let l16 : s .home .0 < 16 = omega (arith, s .inside, s .sixteen) in
     let free : vec-len (s .roots) < 256 = ltb-true (vec-len (s .roots)) 256 (sym (c .has-room .ensures) ∙ c .if-not-has-room .left) in
@@ -92,7 +94,13 @@ ghost-self c =
                     omega (arith, c .enter .ensures .capacity, s .roomRoots),
                     (
                       ap rising rs ∙ rising-added (c .in-Ok .name .0) (numbers (vec-items (s .roots))) (s .orderedRoots),
-                      tt,
+                      (
+                        ap (allWell (s .houses)) rs ∙ well-added (s .houses) (c .in-Ok .name .0) (numbers (vec-items (s .roots))) (ap (λ y. wellFormed (s .houses) (name y)) on ∙ well-made (s .houses) k (s .home .0) (omega arith) l16 (s .inside)) (s .wellRoots),
+                        (
+                          ap (fieldsWell (s .houses)) os ∙ pushed-well (s .houses) o (objectsOf xs) (s .wellFields),
+                          tt,
+                        ),
+                      ),
                     ),
                   ),
                 ),

@@ -10,8 +10,8 @@ use Rattle.tables.specs.Gathered.{Found}
 use Rattle.tables.specs.declared.which.Which.the-variants.{Of}
 use Rattle.tables.specs.Shown.{numbers, objectOf}
 use Rattle.objects.specs.Calls.{heapOf}
-use Rattle.objects.specs.Laws.{Sole}
-use Rattle.objects.proofs.Laws.{sole}
+use Rattle.objects.specs.Laws.{Sole, Well}
+use Rattle.objects.proofs.Laws.{sole, refers-well}
 use Rattle.objects.proofs.Sought.{refers-lists}
 use Rattle.objects.proofs.store.Objects.references_of.Needs as need
 
@@ -23,5 +23,6 @@ returns c =
     (c .references .ensures) in
     record {
       names = lists;
+      well = made-weaker (c .references .result) (λ v. Lists (numbers (vec-items v)) (Refers (heapOf s) (c .args .house .0))) (λ v. Well (heapOf s) (numbers (vec-items v))) (λ v l o e. refers-well (heapOf s) (s .wellRoots) (s .wellFields) o (l .only o e .1)) lists;
       sole = made-weaker (c .references .result) (λ v. Lists (numbers (vec-items v)) (Refers (heapOf s) (c .args .house .0))) (λ v. Sole (numbers (vec-items v)) (Refers (heapOf s) (c .args .house .0))) (λ v l. sole (numbers (vec-items v)) (Refers (heapOf s) (c .args .house .0)) l) lists;
     }

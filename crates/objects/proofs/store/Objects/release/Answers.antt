@@ -7,9 +7,10 @@ use lib.ListN.{length}
 use Rattle.std.specs.Of.Vec.{vec-items, vec-len}
 use Rattle.std.specs.declared.option.Option.the-variants.{Some}
 use Rattle.std.specs.declared.result.Result.the-variants.{Ok, Err}
-use Rattle.tables.specs.Model.{isIn, without, rising, placeOf}
+use Rattle.tables.specs.Model.{isIn, without, rising, placeOf, allWell}
 use Rattle.tables.specs.Shown.{number, numbers}
 use Rattle.objects.specs.Calls.{heapOf, withRoots, dropAnswer, unrooted}
+use Rattle.tables.proofs.Well.{well-without}
 use Rattle.tables.proofs.Places.{place-facts, removed-without, rising-without}
 use Rattle.tables.proofs.Edits.{map-removed}
 use Rattle.objects.proofs.Laws.{frees, without-gone}
@@ -31,7 +32,7 @@ pub ghost-self : need.ghost-self
 ghost-self c =
     let s = c .args .self .now in
     let g = gone c in
-    (s .sixteen, (s .inside, (s .few, (s .room, (s .ordered, (s .own, (omega (arith, c .remove .ensures .len, s .fewRoots), (omega (arith, c .remove .ensures .capacity, s .roomRoots), (ap rising (g .1) ∙ rising-without (c .args .o .0) (numbers (vec-items (s .roots))) (s .orderedRoots), tt)))))))))
+    (s .sixteen, (s .inside, (s .few, (s .room, (s .ordered, (s .own, (omega (arith, c .remove .ensures .len, s .fewRoots), (omega (arith, c .remove .ensures .capacity, s .roomRoots), (ap rising (g .1) ∙ rising-without (c .args .o .0) (numbers (vec-items (s .roots))) (s .orderedRoots), (ap (allWell (s .houses)) (g .1) ∙ well-without (s .houses) (c .args .o .0) (numbers (vec-items (s .roots))) (s .wellRoots), (s .wellFields, tt)))))))))))
 
 pub returns : need.returns
 returns c =

@@ -9,10 +9,11 @@ use Rattle.std.specs.Of.Vec.{vec-items, vec-len}
 use Rattle.std.specs.declared.result.Result.the-variants.{Ok, Err}
 use Rattle.std.proofs.shelf.Lists.{length-map}
 use Rattle.wire.specs.declared.refusal.Refusal.the-variants.{NoField}
-use Rattle.tables.specs.Model.{fieldsOf, isIn, present, changed, withoutFirst}
+use Rattle.tables.specs.Model.{fieldsOf, isIn, present, changed, withoutFirst, allWell}
 use Rattle.tables.specs.Shown.{objectOf, number, numbers}
 use Rattle.objects.specs.Calls.{heapOf, withObjects, unlinkAnswer, unlinkedFrom}
 use Rattle.tables.proofs.Places.{first-none, first-there}
+use Rattle.tables.proofs.Well.{well-removed, well-fields}
 use Rattle.objects.proofs.Helds.{Held, held-facts, held-name, held-fields, put-held, accepted, refusedSo}
 use Rattle.tables.proofs.Table.{length-fields}
 use Rattle.objects.proofs.store.Objects.unlink.Needs as need
@@ -36,9 +37,11 @@ put-requires c κs =
     let s = c .args .self .now in
     let o = c .args .o .0 in
     let h = held-facts s o (c .in-Some .at) (c .in-Some .ensures tt .value) in
+    let x = c .index .result .now in
     record {
       within = c .in-Some .ensures tt .within;
       same = h .called ∙ sym (held-name s o (c .in-Some .at) h (c .index .result .now) (c .index .ensures)) ∙ ap (λ y. y .name) (sym (c .unlinked .ensures));
+      well = ap (λ y. allWell (s .houses) (y .fields)) (c .unlinked .ensures) ∙ well-removed (s .houses) (objectOf x .fields) (c .first-place .result) (ap (allWell (s .houses)) (sym (held-fields s o (c .in-Some .at) h x (c .index .ensures))) ∙ well-fields (s .houses) o (heapOf s .objects) (s .wellFields));
     }
 
 pub returns : need.returns

@@ -6,8 +6,8 @@ use lib.ListN.{length, take, drop, getD, set}
 use Rattle.std.proofs.shelf.Lists.{drop-all, append-nil}
 use Rattle.tables.specs.Marks.{keptBy}
 use Rattle.tables.proofs.Edits.{closing-no, closing-yes, kept-none}
-use Rattle.tables.proofs.marking.close_up.Needs as need
-use Rattle.tables.proofs.marking.close_up.Needs.{then-marks-i, else-marks-i}
+use Rattle.tables.proofs.closing.close_up.Needs as need
+use Rattle.tables.proofs.closing.close_up.Needs.{then-marks-i, else-marks-i}
 
 pub loop-i-again : need.loop-i-again
 loop-i-again c =
