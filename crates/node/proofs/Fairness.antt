@@ -27,7 +27,7 @@ use Rattle.node.specs.Step.{Outcome, Event, make, link, unlink, load, drop, as
 use Rattle.node.specs.Laws.{Fair, AlwaysFair}
 use Rattle.node.specs.Shown.{Gives}
 
-by-cases : {X : Type 0} (b : Bool) → (b ≡ true → X) → (b ≡ false → X) → X
+pub by-cases : {X : Type 0} (b : Bool) → (b ≡ true → X) → (b ≡ false → X) → X
 by-cases true f g = f refl
 by-cases false f g = g refl
 
@@ -54,7 +54,7 @@ fair-heap (Err e) b new h p q = fair-refused e h
 fair-heap (Ok x) true new h p q = fair-sends [] h (withHeap new h) p q
 fair-heap (Ok x) false new h p q = fair-sends [] h h refl refl
 
-up-home : (b : Bool) (c : ℕ) (h : House) → (cond b (inCensus c h) h .heap .home ≡ h .heap .home) × (cond b (inCensus c h) h .heap .houses ≡ h .heap .houses)
+pub up-home : (b : Bool) (c : ℕ) (h : House) → (cond b (inCensus c h) h .heap .home ≡ h .heap .home) × (cond b (inCensus c h) h .heap .houses ≡ h .heap .houses)
 up-home true c h = (refl, refl)
 up-home false c h = (refl, refl)
 
@@ -63,7 +63,7 @@ took-home true o h = (refl, refl)
 took-home false o h = (refl, refl)
 
 -- once caught up, a house is in the census
-up-census : (c : ℕ) (h : House) → ltb c (census h) ≡ false → census (caughtUp c h) ≡ c
+pub up-census : (c : ℕ) (h : House) → ltb c (census h) ≡ false → census (caughtUp c h) ≡ c
 up-census c h low =
     by-cases (ltb (census h) c) (λ e. rw e)
     (λ e. let a = ltb-false c (census h) low in let b = ltb-false (census h) c e in let same : census h ≡ c = omega arith in rw e same)

@@ -3,7 +3,7 @@ ghost use Rattle.lines.specs.Lists.{Lent};
 ghost use Rattle.lines.specs.Stamping.{unstamped};
 ghost use Rattle.census.specs.Model.{fresh};
 ghost use Rattle.census.specs.Standings.{partOf};
-ghost use Rattle.node.specs.Laws.{AlwaysFair};
+ghost use Rattle.node.specs.Laws.{Lawful};
 ghost use Rattle.node.specs.Shown.{houseOf, Steps, Tied, eventOf};
 use crate::head::Head;
 use crate::sent::Answer;
@@ -20,6 +20,7 @@ impl Head {
     pub fn new(heap: Global) -> Head
         ensures stamps { λ r. ⌜ r .stamps ≡ unstamped ⌝ }
         ensures part { λ r. ⌜ partOf (r .standing) ≡ fresh 0 ⌝ }
+        ensures lawful { λ _. ⌜ Lawful ⌝ }
     {
         Head {
             heap,
@@ -55,11 +56,4 @@ impl Head {
             Call::Round => self.round(objects, list),
         }
     }
-}
-
-// A step changes no house into another, and a refusal changes nothing: whatever happens to whatever house.
-pub fn steps_are_fair() -> u8
-    ensures { λ _. ⌜ AlwaysFair ⌝ }
-{
-    0
 }
