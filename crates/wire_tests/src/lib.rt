@@ -1,4 +1,7 @@
 // Messages by hand: each kind as the bytes that the format gives it, and bytes that are no message.
+
+#![tactic(auto)]
+
 #[cfg(test)]
 mod tests {
     use std::process::Abort;

@@ -15,9 +15,9 @@ pub loop-i-preserved : goal.loop-i-preserved
 loop-i-preserved c =
     let e = listing c.row-line.result in
     let is = ap listing c.row-line.ensures in
-    elim c.if-is-unheard.branch [
-      | then-is-unheard w ↦ joining_above c.loop-i.invariant c.loop-i-test.true _ _ w.self-is w.renumber.ensures.numbered w.renumber.ensures.lent e is w.if-is-unheard.ensures
-      | else-is-unheard w ↦ joining_heard c.loop-i.invariant c.loop-i-test.true _ w.self-is e is w.if-is-unheard.ensures
+    elim c.if-is_unheard.branch [
+      | then-is-unheard w ↦ joining_above c.loop-i.invariant c.loop-i-test.true _ _ w.self-is w.renumber.ensures.numbered w.renumber.ensures.lent e is w.if-is_unheard.ensures
+      | else-is-unheard w ↦ joining_heard c.loop-i.invariant c.loop-i-test.true _ w.self-is e is w.if-is_unheard.ensures
     ]
 
 pub returns : goal.returns

@@ -20,17 +20,17 @@ loop-i-preserved c =
     let h = c.loop-i-test.true in
     let heard = heard_from c.args.stamps.now in
     let is : joins c.args.census.0 heard (listing c.row-line.result) ≡ joins c.args.census.0 heard (row_of t i) = ap (λ l. joins c.args.census.0 heard (listing l)) c.row-line.ensures in
-    elim c.if-is-joining.branch [
+    elim c.if-is_joining.branch [
       | then-is-joining w ↦ (
         omega (arith, w.count-is, c.loop-i.invariant.0),
         rw (w.into-is, w.count-is, c.row-line.ensures)
             (gathering_more _ _ _ _ _ _ c.loop-i.invariant.1 (omega (arith, t.most, t.within, c.loop-i.invariant.0))
-            (joining_more (row_of t) i t.len c.args.census.0 heard h (sym is ∙ sym w.if-is-joining.ensures))),
+            (joining_more (row_of t) i t.len c.args.census.0 heard h (sym is ∙ sym w.if-is_joining.ensures))),
       )
       | else-is-joining w ↦ (
         omega (arith, w.count-is, c.loop-i.invariant.0),
         rw (w.into-is, w.count-is)
-            (gathering_same _ _ _ _ _ c.loop-i.invariant.1 (joining_other (row_of t) i t.len c.args.census.0 heard h (sym is ∙ sym w.if-is-joining.ensures))),
+            (gathering_same _ _ _ _ _ c.loop-i.invariant.1 (joining_other (row_of t) i t.len c.args.census.0 heard h (sym is ∙ sym w.if-is_joining.ensures))),
       )
     ]
 

@@ -14,13 +14,13 @@ pub loop-i-preserved : goal.loop-i-preserved
 loop-i-preserved c =
     let a = c.args.self.now in
     let e = listing c.row-line.result in
-    elim c.if-not-is-other.branch [
+    elim c.if-not-is_other.branch [
       | then-not-is-other w ↦
           turn_kept c.loop-i.invariant c.loop-i-test.true e (ap listing c.row-line.ensures) _ _ w.self-is w.push.ensures.pushed w.push.ensures.lent a.within a.alone
-          w.if-not-is-other.ensures
+          w.if-not-is_other.ensures
       | else-not-is-other w ↦
           turn_gone c.loop-i.invariant c.loop-i-test.true e (ap listing c.row-line.ensures) _ w.self-is
-          w.if-not-is-other.ensures
+          w.if-not-is_other.ensures
     ]
 
 pub push-requires : goal.push-requires
