@@ -1,5 +1,5 @@
-use Rattle.std.proofs.Common.{◌≡◌, ◌+◌, ◌-◌, ◌*◌, ◌/◌, ◌<◌, ◌≤◌, length, sym, ap, ◌∙◌, subst, arith}
-use Rattle.wire.specs.Format.{numbers, u32_at}
+use Rattle.std.proofs.Common.{◌+◌, ◌-◌, ◌/◌, ◌<◌, length, sym, ◌∙◌, subst, arith}
+use Rattle.wire.specs.Format.{numbers}
 use Rattle.lines.proofs.Numbers.{Halved, length_numbers, numbers_long, numbers_at, halved_none, halved_up, halved_down, halved_all, is_in_at}
 use Rattle.lines.proofs.word.holds.Goals as goal
 
