@@ -30,7 +30,7 @@ impl Desk {
 
     // Whether the next round may begin: there is none, or all have answered it.
     fn is_ready(&self, houses: u8) -> bool
-        ensures { result ≡ ready houses (desk_of self.now) }
+        ensures { result ≡ ready houses (desk_of self.entry.now) }
     {
         self.round.0 == 0 || self.now.are_all(houses)
     }
@@ -57,14 +57,14 @@ impl Desk {
 
     // Whether an answer to a round is the first of its house to the present one.
     fn is_new(&self, number: RoundNumber, from: House) -> bool
-        ensures { result ≡ notes number.0 from.0 (desk_of self.now) }
+        ensures { result ≡ notes number.0 from.0 (desk_of self.entry.now) }
     {
         number.0 >= 1 && number.0 == self.round.0 && !self.now.of(from.0).has_spoken()
     }
 
     // Whether two rounds in a row agree. One does not show that nothing was marked while the others were asked.
     fn is_agreed(&self, houses: u8) -> bool
-        ensures { result ≡ agreed houses (desk_of self.now) }
+        ensures { result ≡ agreed houses (desk_of self.entry.now) }
     {
         self.round.0 >= 2 && self.now.agree(&self.before, houses)
     }
