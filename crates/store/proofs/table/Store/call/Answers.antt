@@ -11,4 +11,12 @@ invariant-of-self c =
     let lent = c.call-head.ensures.lent in
     let h = house_with c.replace-head.result s in
     let g = house_of c.call-head.result.0 c.call-head.new.objects t in
-    (within t lent.room, (s.sixteen, (t.alone, (own t s.home lent.home, (far t s.home s.houses lent.home lent.houses, (here c.call-head.result.1 h g (event_of c.args.call) s.home.0 c.call-head.ensures.step s.here, (all c.call-head.result.1 h g (event_of c.args.call) s.houses c.call-head.ensures.step s.all, tt)))))))
+    record {
+      within = within t lent.room;
+      sixteen = s.sixteen;
+      alone = t.alone;
+      own = own t s.home lent.home;
+      far = far t s.home s.houses lent.home lent.houses;
+      here = here c.call-head.result.1 h g (event_of c.args.call) s.home.0 c.call-head.ensures.step s.here;
+      all = all c.call-head.result.1 h g (event_of c.args.call) s.houses c.call-head.ensures.step s.all;
+    }
