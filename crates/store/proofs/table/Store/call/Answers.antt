@@ -4,8 +4,8 @@ use Rattle.store.specs.Stores.{house_with}
 use Rattle.store.proofs.Lends.{within, own, far, here, all}
 use Rattle.store.proofs.table.Store.call.Goals as goal
 
-pub invariant-of-self : goal.invariant-of-self
-invariant-of-self c =
+pub invariant_of-self : goal.invariant_of-self
+invariant_of-self c =
     let s = c.args.self.now in
     let t = c.call-head.new.list in
     let lent = c.call-head.ensures.lent in
