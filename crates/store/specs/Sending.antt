@@ -1,5 +1,5 @@
 -- The bytes of messages that are sent.
-use Rattle.std.specs.Prelude.{ℕ, List, [], ◌∷◌, map, vec_items, Vec}
+use Rattle.std.specs.Prelude.{ℕ, List, map, vec_items, Vec}
 use Rattle.std.specs.declared.alloc.Global.{Global}
 use Rattle.wire.specs.declared.message.Message.TheVariants.{Telling}
 use Rattle.wire.specs.declared.names.Census.{Census}

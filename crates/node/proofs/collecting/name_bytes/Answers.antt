@@ -1,4 +1,4 @@
-use Rattle.std.proofs.Common.{◌≡◌, ◌++◌, take, vec_items, sym, ap, ◌∙◌}
+use Rattle.std.proofs.Common.{◌++◌, take, vec_items, ap, ◌∙◌}
 use Rattle.wire.specs.Names.{name}
 use Rattle.tables.specs.Shown.{numbers}
 use Rattle.node.specs.Step.{bytes_of}

@@ -1,4 +1,4 @@
-use Rattle.std.proofs.Common.{◌≡◌, ◌∙◌}
+use Rattle.std.proofs.Common.{◌∙◌}
 use Rattle.wire.specs.Names.{name}
 use Rattle.store.proofs.Tellings.{told_more, told_all}
 use Rattle.store.proofs.sending.telling_bytes.Goals as goal

@@ -1,4 +1,4 @@
-use Rattle.std.proofs.Common.{◌≡◌, ℕ, ◌<◌, List, get_or, IfOk, Ok, Err, Result, subst, arith, w8, Fits, MatchResult}
+use Rattle.std.proofs.Common.{◌≡◌, ℕ, ◌<◌, List, IfOk, Ok, Err, Result, subst, arith, w8, Fits, MatchResult}
 use Rattle.wire.specs.declared.reading.Received.{Received}
 use Rattle.wire.specs.declared.refusal.Refusal.{Refusal}
 use Rattle.wire.specs.Format.{decode}

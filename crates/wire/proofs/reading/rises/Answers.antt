@@ -1,4 +1,4 @@
-use Rattle.std.proofs.Common.{◌≡◌, ◌<◌, ◌≤◌, length, sym, ◌∙◌, arith, ltb-false, ltb-true}
+use Rattle.std.proofs.Common.{◌<◌, ◌≤◌, length, sym, ◌∙◌, arith, ltb-false, ltb-true}
 use Rattle.wire.proofs.Parts.{rising_stop, rising_more, rising_none}
 use Rattle.wire.proofs.reading.rises.Goals as goal
 

@@ -1,4 +1,4 @@
-use Rattle.std.proofs.Common.{◌≡◌, true, ◌++◌, is_ok, vec_items, sym, refl, ap, ◌∙◌, append_assoc, arith, rules}
+use Rattle.std.proofs.Common.{◌≡◌, true, ◌++◌, is_ok, vec_items, ap, ◌∙◌, append_assoc, arith, rules}
 use Rattle.wire.specs.Format.{head_of}
 use Rattle.wire.proofs.Trips.{reads_back}
 use Rattle.wire.proofs.writing.write.Goals as goal

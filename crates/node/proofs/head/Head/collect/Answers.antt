@@ -1,4 +1,4 @@
-use Rattle.std.proofs.Common.{◌≡◌, [], sym, ap, ◌∙◌}
+use Rattle.std.proofs.Common.{[], sym, ap, ◌∙◌}
 use Rattle.lines.specs.Listed.{objects_listed}
 use Rattle.lines.specs.Lists.{lines}
 use Rattle.objects.specs.Calls.{heap_of}

@@ -1,5 +1,4 @@
 use Rattle.node.specs.Shown.{house_of, event_of}
-use Rattle.node.specs.Step.{Event}
 use Rattle.store.specs.Stores.{house_with}
 use Rattle.store.proofs.Lends.{within, own, far, here, all}
 use Rattle.store.proofs.table.Store.call.Goals as goal
