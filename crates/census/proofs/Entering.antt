@@ -1,20 +1,13 @@
 -- A name that is told.
-use mathlib.Core.Path.{_≡_, refl, sym, ap, _∙_}
-use mathlib.Core.Bool.{Bool, true, false, _||_}
-use mathlib.Core.Logic.{⊎-elim}
-use mathlib.Core.List.{List, [], _∷_, _++_}
-use Prim.Native.Nat.{ℕ, suc, _+_, _<_, _≤_}
-use native.Mathlib.Omega.{arith}
-use lib.Dec.{eqb, ltb}
-use lib.ListN.{length, take, drop}
-use Rattle·std.specs.Holes.{inserted}
-use Rattle·std.proofs.shelf.Tests.{ltb-true, ltb-false, eqb-true, eqb-false, lt-ltb, le-ltb, and-parts, and-from, or-parts, or-right, or-from, both-ways, cond-true, cond-false, cond-both, cases-lt, cases-bool, eq-eqb, ne-eqb}
-use Rattle·std.proofs.shelf.Lists.{map-append, take-map, drop-map}
-use Rattle·census·specs.declared.telling.Told as table
-use Rattle·census·specs.Lists.{isIn, above, rising, below}
-use Rattle·census·specs.Model.{Told, names, entered, enteredAll, untold, unanswered}
-use Rattle·census·specs.Shown.{toldOf, shown}
-use Rattle·census·proofs.Places.{above-out}
+use Rattle.std.proofs.Common.{◌≡◌, ℕ, suc, ◌+◌, ◌<◌, ◌≤◌, Bool, true, false, ◌||◌, eqb, ltb, List, [], ◌∷◌, ◌++◌, length, take, drop, sym, refl, ap, ◌∙◌, ⊎_elim, arith}
+use Rattle.std.specs.List.{insert}
+use Rattle.std.proofs.lemmas.Bool.{ltb-true, ltb-false, eqb-true, eqb-false, lt-ltb, le-ltb, and_parts, and_from, or_parts, or_right, or_from, both_ways, cond-true, cond-false, cond_both, cases_lt, cases_Bool, eq-eqb, ne_eqb}
+use Rattle.std.proofs.lemmas.List.{map-append, take-map, drop-map}
+use Rattle.census.specs.declared.telling.Told as table
+use Rattle.census.specs.Lists.{is_in, above, rising, below}
+use Rattle.census.specs.Model.{Told, names, entered, entered_all, untold, unanswered}
+use Rattle.census.specs.Shown.{told_of, shown}
+use Rattle.census.proofs.Places.{above_out}
 
 abbrev pub awaited : ℕ → Told
 awaited o = record { name = o; answered = false }
@@ -24,167 +17,167 @@ strictly a b l ne = omega arith
 
 -- the three ways of `entered`
 module _ (o : ℕ) (t : Told) (ts : List Told) where
-  pub entered-past : t .name < o → entered o (t ∷ ts) ≡ t ∷ entered o ts
-  entered-past l = cond-true (ltb (t .name) o) _ _ (lt-ltb (t .name) o l)
+  pub entered_past : t.name < o → entered o (t ∷ ts) ≡ t ∷ entered o ts
+  entered_past l = cond-true (ltb t.name o) _ _ (lt-ltb t.name o l)
 
-  pub entered-same : t .name ≡ o → entered o (t ∷ ts) ≡ t ∷ ts
-  entered-same e = cond-false (ltb (t .name) o) _ _ (le-ltb (t .name) o (omega arith)) ∙ cond-true (eqb (t .name) o) _ _ (eq-eqb (t .name) o e)
+  pub entered_same : t.name ≡ o → entered o (t ∷ ts) ≡ t ∷ ts
+  entered_same e = cond-false (ltb t.name o) _ _ (le-ltb t.name o (omega arith)) ∙ cond-true (eqb t.name o) _ _ (eq-eqb t.name o e)
 
-  pub entered-before : o < t .name → entered o (t ∷ ts) ≡ awaited o ∷ t ∷ ts
-  entered-before l = cond-false (ltb (t .name) o) _ _ (le-ltb (t .name) o (omega arith)) ∙ cond-false (eqb (t .name) o) _ _ (ne-eqb (t .name) o (λ e. omega arith))
+  pub entered_before : o < t.name → entered o (t ∷ ts) ≡ awaited o ∷ t ∷ ts
+  entered_before l = cond-false (ltb t.name o) _ _ (le-ltb t.name o (omega arith)) ∙ cond-false (eqb t.name o) _ _ (ne_eqb t.name o (λ e. omega arith))
 
   -- what holds on each of them
-  pub entered-ways : (P : List Told → Type 0) → (t .name < o → P (t ∷ entered o ts)) → (t .name ≡ o → P (t ∷ ts)) → (o < t .name → P (awaited o ∷ t ∷ ts)) → P (entered o (t ∷ ts))
-  entered-ways P past same before =
-      cond-both (ltb (t .name) o) _ _ P
-      (λ e. past (ltb-true (t .name) o e))
-      (λ e. cond-both (eqb (t .name) o) _ _ P
-      (λ f. same (eqb-true (t .name) o f))
-      (λ f. before (strictly (t .name) o (ltb-false (t .name) o e) (eqb-false (t .name) o f))))
+  pub entered_ways : (P : List Told → Type 0) → (t.name < o → P (t ∷ entered o ts)) → (t.name ≡ o → P (t ∷ ts)) → (o < t.name → P (awaited o ∷ t ∷ ts)) → P (entered o (t ∷ ts))
+  entered_ways P past same before =
+      cond_both (ltb t.name o) _ _ P
+      (λ e. past (ltb-true t.name o e))
+      (λ e. cond_both (eqb t.name o) _ _ P
+      (λ f. same (eqb-true t.name o f))
+      (λ f. before (strictly t.name o (ltb-false t.name o e) (eqb-false t.name o f))))
 
 -- what is told already changes nothing
-pub entered-in : (o : ℕ) (ts : List Told) → rising (names ts) ≡ true → isIn o (names ts) ≡ true → entered o ts ≡ ts
-entered-in o [] r h = absurd (both-ways false refl h)
-entered-in o (t ∷ ts) r h =
-    let p = and-parts (above (t .name) (names ts)) (rising (names ts)) r in
-    entered-ways o t ts (λ xs. xs ≡ t ∷ ts)
-    (λ l. let ne : eqb (t .name) o ≡ false = ne-eqb (t .name) o (λ e. omega arith) in
-    let there : isIn o (names ts) ≡ true = rw ne at h in
-    ap (λ xs. t ∷ xs) (entered-in o ts (p .1) there))
+pub entered_in : (o : ℕ) (ts : List Told) → rising (names ts) ≡ true → is_in o (names ts) ≡ true → entered o ts ≡ ts
+entered_in o [] r h = absurd (both_ways false refl h)
+entered_in o (t ∷ ts) r h =
+    let p = and_parts (above t.name (names ts)) (rising (names ts)) r in
+    entered_ways o t ts (λ xs. xs ≡ t ∷ ts)
+    (λ l. let ne : eqb t.name o ≡ false = ne_eqb t.name o (λ e. omega arith) in
+    let there : is_in o (names ts) ≡ true = rw ne at h in
+    ap (λ xs. t ∷ xs) (entered_in o ts p.1 there))
     (λ e. refl)
-    (λ l. absurd (both-ways (isIn o (names (t ∷ ts)))
-    (or-from (eqb (t .name) o) (isIn o (names ts)) (ne-eqb (t .name) o (λ e. omega arith)) (above-out o (t .name) (names ts) (p .0) (omega arith))) h))
+    (λ l. absurd (both_ways (is_in o (names (t ∷ ts)))
+    (or_from (eqb t.name o) (is_in o (names ts)) (ne_eqb t.name o (λ e. omega arith)) (above_out o t.name (names ts) p.0 (omega arith))) h))
 
 -- what was not told is put into its place
-pub entered-out : (o : ℕ) (ts : List Told) → isIn o (names ts) ≡ false → inserted ts (below o (names ts)) (awaited o) ≡ entered o ts
-entered-out o [] h = refl
-entered-out o (t ∷ ts) h =
-    let p = or-parts (eqb (t .name) o) (isIn o (names ts)) h in
-    ⊎-elim
+pub entered_out : (o : ℕ) (ts : List Told) → is_in o (names ts) ≡ false → insert ts (below o (names ts)) (awaited o) ≡ entered o ts
+entered_out o [] h = refl
+entered_out o (t ∷ ts) h =
+    let p = or_parts (eqb t.name o) (is_in o (names ts)) h in
+    ⊎_elim
     (λ l.
-    let b : below o (names (t ∷ ts)) ≡ suc (below o (names ts)) = cond-true (ltb (t .name) o) (suc (below o (names ts))) 0 (lt-ltb (t .name) o l) in
-    ap (λ k. inserted (t ∷ ts) k (awaited o)) b ∙ ap (λ xs. t ∷ xs) (entered-out o ts (p .1)) ∙ sym (entered-past o t ts l))
+    let b : below o (names (t ∷ ts)) ≡ suc (below o (names ts)) = cond-true (ltb t.name o) (suc (below o (names ts))) 0 (lt-ltb t.name o l) in
+    ap (λ k. insert (t ∷ ts) k (awaited o)) b ∙ ap (λ xs. t ∷ xs) (entered_out o ts p.1) ∙ sym (entered_past o t ts l))
     (λ l.
-    let b : below o (names (t ∷ ts)) ≡ 0 = cond-false (ltb (t .name) o) (suc (below o (names ts))) 0 (le-ltb (t .name) o l) in
-    ap (λ k. inserted (t ∷ ts) k (awaited o)) b ∙ sym (entered-before o t ts (strictly (t .name) o l (eqb-false (t .name) o (p .0)))))
-    (cases-lt (t .name) o)
+    let b : below o (names (t ∷ ts)) ≡ 0 = cond-false (ltb t.name o) (suc (below o (names ts))) 0 (le-ltb t.name o l) in
+    ap (λ k. insert (t ∷ ts) k (awaited o)) b ∙ sym (entered_before o t ts (strictly t.name o l (eqb-false t.name o p.0))))
+    (cases_lt t.name o)
 
-or-over : (a b c : Bool) → (a || (b || c)) ≡ (b || (a || c))
-or-over true true c = refl
-or-over true false c = refl
-or-over false true c = refl
-or-over false false c = refl
+or_over : (a b c : Bool) → (a || (b || c)) ≡ (b || (a || c))
+or_over true true c = refl
+or_over true false c = refl
+or_over false true c = refl
+or_over false false c = refl
 
-or-again : (a c : Bool) → (a || c) ≡ (a || (a || c))
-or-again true c = refl
-or-again false c = refl
+or_again : (a c : Bool) → (a || c) ≡ (a || (a || c))
+or_again true c = refl
+or_again false c = refl
 
 -- what is told then: o, and what was told before
-pub isIn-entered : (q o : ℕ) (ts : List Told) → isIn q (names (entered o ts)) ≡ (eqb o q || isIn q (names ts))
-isIn-entered q o [] = refl
-isIn-entered q o (t ∷ ts) =
-    entered-ways o t ts (λ xs. isIn q (names xs) ≡ (eqb o q || isIn q (names (t ∷ ts))))
-    (λ l. ap (λ b. eqb (t .name) q || b) (isIn-entered q o ts) ∙ or-over (eqb (t .name) q) (eqb o q) (isIn q (names ts)))
-    (λ e. rw e (or-again (eqb o q) (isIn q (names ts))))
+pub is_in_entered : (q o : ℕ) (ts : List Told) → is_in q (names (entered o ts)) ≡ (eqb o q || is_in q (names ts))
+is_in_entered q o [] = refl
+is_in_entered q o (t ∷ ts) =
+    entered_ways o t ts (λ xs. is_in q (names xs) ≡ (eqb o q || is_in q (names (t ∷ ts))))
+    (λ l. ap (λ b. eqb t.name q || b) (is_in_entered q o ts) ∙ or_over (eqb t.name q) (eqb o q) (is_in q (names ts)))
+    (λ e. rw e (or_again (eqb o q) (is_in q (names ts))))
     (λ l. refl)
 
-above-more : (x y : ℕ) (xs : List ℕ) → x ≤ y → above y xs ≡ true → above x xs ≡ true
-above-more x y [] l a = refl
-above-more x y (z ∷ xs) l a =
-    let p = and-parts (ltb y z) (above y xs) a in
-    let h = ltb-true y z (p .0) in
-    and-from (ltb x z) (above x xs) (lt-ltb x z (omega arith)) (above-more x y xs l (p .1))
+above_more : (x y : ℕ) (xs : List ℕ) → x ≤ y → above y xs ≡ true → above x xs ≡ true
+above_more x y [] l a = refl
+above_more x y (z ∷ xs) l a =
+    let p = and_parts (ltb y z) (above y xs) a in
+    let h = ltb-true y z p.0 in
+    and_from (ltb x z) (above x xs) (lt-ltb x z (omega arith)) (above_more x y xs l p.1)
 
-above-entered : (x o : ℕ) (ts : List Told) → x < o → above x (names ts) ≡ true → above x (names (entered o ts)) ≡ true
-above-entered x o [] l a = and-from (ltb x o) true (lt-ltb x o l) refl
-above-entered x o (t ∷ ts) l a =
-    let p = and-parts (ltb x (t .name)) (above x (names ts)) a in
-    entered-ways o t ts (λ xs. above x (names xs) ≡ true)
-    (λ h. and-from (ltb x (t .name)) _ (p .0) (above-entered x o ts l (p .1)))
+above_entered : (x o : ℕ) (ts : List Told) → x < o → above x (names ts) ≡ true → above x (names (entered o ts)) ≡ true
+above_entered x o [] l a = and_from (ltb x o) true (lt-ltb x o l) refl
+above_entered x o (t ∷ ts) l a =
+    let p = and_parts (ltb x t.name) (above x (names ts)) a in
+    entered_ways o t ts (λ xs. above x (names xs) ≡ true)
+    (λ h. and_from (ltb x t.name) _ p.0 (above_entered x o ts l p.1))
     (λ e. a)
-    (λ h. and-from (ltb x o) _ (lt-ltb x o l) a)
+    (λ h. and_from (ltb x o) _ (lt-ltb x o l) a)
 
-pub rising-entered : (o : ℕ) (ts : List Told) → rising (names ts) ≡ true → rising (names (entered o ts)) ≡ true
-rising-entered o [] r = refl
-rising-entered o (t ∷ ts) r =
-    let p = and-parts (above (t .name) (names ts)) (rising (names ts)) r in
-    entered-ways o t ts (λ xs. rising (names xs) ≡ true)
-    (λ l. and-from _ _ (above-entered (t .name) o ts l (p .0)) (rising-entered o ts (p .1)))
+pub rising_entered : (o : ℕ) (ts : List Told) → rising (names ts) ≡ true → rising (names (entered o ts)) ≡ true
+rising_entered o [] r = refl
+rising_entered o (t ∷ ts) r =
+    let p = and_parts (above t.name (names ts)) (rising (names ts)) r in
+    entered_ways o t ts (λ xs. rising (names xs) ≡ true)
+    (λ l. and_from _ _ (above_entered t.name o ts l p.0) (rising_entered o ts p.1))
     (λ e. r)
-    (λ l. and-from _ _ (and-from (ltb o (t .name)) _ (lt-ltb o (t .name) l) (above-more o (t .name) (names ts) (omega arith) (p .0))) r)
+    (λ l. and_from _ _ (and_from (ltb o t.name) _ (lt-ltb o t.name l) (above_more o t.name (names ts) (omega arith) p.0)) r)
 
-pub rising-enteredAll : (us : List ℕ) (ts : List Told) → rising (names ts) ≡ true → rising (names (enteredAll us ts)) ≡ true
-rising-enteredAll [] ts r = r
-rising-enteredAll (u ∷ us) ts r = rising-enteredAll us (entered u ts) (rising-entered u ts r)
+pub rising_entered_all : (us : List ℕ) (ts : List Told) → rising (names ts) ≡ true → rising (names (entered_all us ts)) ≡ true
+rising_entered_all [] ts r = r
+rising_entered_all (u ∷ us) ts r = rising_entered_all us (entered u ts) (rising_entered u ts r)
 
 -- one name more at most
-length-out : (o : ℕ) (ts : List Told) → isIn o (names ts) ≡ false → length (entered o ts) ≡ length ts + 1
-length-out o [] h = refl
-length-out o (t ∷ ts) h =
-    let p = or-parts (eqb (t .name) o) (isIn o (names ts)) h in
-    entered-ways o t ts (λ xs. length xs ≡ length (t ∷ ts) + 1)
-    (λ l. omega (arith, length-out o ts (p .1)))
-    (λ e. absurd (eqb-false (t .name) o (p .0) e))
+length_out : (o : ℕ) (ts : List Told) → is_in o (names ts) ≡ false → length (entered o ts) ≡ length ts + 1
+length_out o [] h = refl
+length_out o (t ∷ ts) h =
+    let p = or_parts (eqb t.name o) (is_in o (names ts)) h in
+    entered_ways o t ts (λ xs. length xs ≡ length (t ∷ ts) + 1)
+    (λ l. omega (arith, length_out o ts p.1))
+    (λ e. absurd (eqb-false t.name o p.0 e))
     (λ l. omega arith)
 
-pub length-entered : (o : ℕ) (ts : List Told) → rising (names ts) ≡ true → length (entered o ts) ≡ length ts + length (untold (o ∷ []) ts)
-length-entered o ts r =
-    cond-both (isIn o (names ts)) [] (o ∷ []) (λ xs. length (entered o ts) ≡ length ts + length xs)
-    (λ e. rw (entered-in o ts r e) (omega arith))
-    (λ e. length-out o ts e)
+pub length_entered : (o : ℕ) (ts : List Told) → rising (names ts) ≡ true → length (entered o ts) ≡ length ts + length (untold (o ∷ []) ts)
+length_entered o ts r =
+    cond_both (is_in o (names ts)) [] (o ∷ []) (λ xs. length (entered o ts) ≡ length ts + length xs)
+    (λ e. rw (entered_in o ts r e) (omega arith))
+    (λ e. length_out o ts e)
 
-unanswered-one : (o : ℕ) (ts : List Told) → length (unanswered (entered o ts)) ≤ length (unanswered ts) + 1
-unanswered-one o [] = omega arith
-unanswered-one o (t ∷ ts) =
-    let i = unanswered-one o ts in
-    entered-ways o t ts (λ xs. length (unanswered xs) ≤ length (unanswered (t ∷ ts)) + 1)
-    (λ l. ⊎-elim (λ e. rw e i) (λ e. rw e (omega arith)) (cases-bool (t .answered)))
+unanswered_one : (o : ℕ) (ts : List Told) → length (unanswered (entered o ts)) ≤ length (unanswered ts) + 1
+unanswered_one o [] = omega arith
+unanswered_one o (t ∷ ts) =
+    let i = unanswered_one o ts in
+    entered_ways o t ts (λ xs. length (unanswered xs) ≤ length (unanswered (t ∷ ts)) + 1)
+    (λ l. ⊎_elim (λ e. rw e i) (λ e. rw e (omega arith)) (cases_Bool t.answered))
     (λ e. omega arith)
     (λ l. omega arith)
 
 -- what is told more is at most what was untold
-pub unanswered-entered : (o : ℕ) (ts : List Told) → rising (names ts) ≡ true → length (unanswered (entered o ts)) ≤ length (unanswered ts) + length (untold (o ∷ []) ts)
-unanswered-entered o ts r =
-    cond-both (isIn o (names ts)) [] (o ∷ []) (λ xs. length (unanswered (entered o ts)) ≤ length (unanswered ts) + length xs)
-    (λ e. rw (entered-in o ts r e) (omega arith))
-    (λ e. unanswered-one o ts)
+pub unanswered_entered : (o : ℕ) (ts : List Told) → rising (names ts) ≡ true → length (unanswered (entered o ts)) ≤ length (unanswered ts) + length (untold (o ∷ []) ts)
+unanswered_entered o ts r =
+    cond_both (is_in o (names ts)) [] (o ∷ []) (λ xs. length (unanswered (entered o ts)) ≤ length (unanswered ts) + length xs)
+    (λ e. rw (entered_in o ts r e) (omega arith))
+    (λ e. unanswered_one o ts)
 
 -- what is left untold
-pub untold-cons : (u : ℕ) (us : List ℕ) (ts : List Told) → length (untold (u ∷ us) ts) ≡ length (untold (u ∷ []) ts) + length (untold us ts)
-untold-cons u us ts = ⊎-elim (λ e. rw e (omega arith)) (λ e. rw e (omega arith)) (cases-bool (isIn u (names ts)))
+pub untold_cons : (u : ℕ) (us : List ℕ) (ts : List Told) → length (untold (u ∷ us) ts) ≡ length (untold (u ∷ []) ts) + length (untold us ts)
+untold_cons u us ts = ⊎_elim (λ e. rw e (omega arith)) (λ e. rw e (omega arith)) (cases_Bool (is_in u (names ts)))
 
-pub untold-less : (o : ℕ) (us : List ℕ) (ts : List Told) → length (untold us (entered o ts)) ≤ length (untold us ts)
-untold-less o [] ts = omega arith
-untold-less o (u ∷ us) ts =
-    let i = untold-less o us ts in
-    let s = isIn-entered u o ts in
-    ⊎-elim
-    (λ e. let f : isIn u (names (entered o ts)) ≡ true = s ∙ or-right (eqb o u) _ e in rw (e, f) i)
-    (λ e. rw e (cond-both (isIn u (names (entered o ts))) _ _ (λ xs. length xs ≤ suc (length (untold us ts))) (λ _. omega arith) (λ _. omega arith)))
-    (cases-bool (isIn u (names ts)))
+pub untold_less : (o : ℕ) (us : List ℕ) (ts : List Told) → length (untold us (entered o ts)) ≤ length (untold us ts)
+untold_less o [] ts = omega arith
+untold_less o (u ∷ us) ts =
+    let i = untold_less o us ts in
+    let s = is_in_entered u o ts in
+    ⊎_elim
+    (λ e. let f : is_in u (names (entered o ts)) ≡ true = s ∙ or_right (eqb o u) _ e in rw (e, f) i)
+    (λ e. rw e (cond_both (is_in u (names (entered o ts))) _ _ (λ xs. length xs ≤ suc (length (untold us ts))) (λ _. omega arith) (λ _. omega arith)))
+    (cases_Bool (is_in u (names ts)))
 
-pub unanswered-all : (us : List ℕ) (ts : List Told) → rising (names ts) ≡ true → length (unanswered (enteredAll us ts)) ≤ length (unanswered ts) + length (untold us ts)
-unanswered-all [] ts r = omega arith
-unanswered-all (u ∷ us) ts r =
-    let i = unanswered-all us (entered u ts) (rising-entered u ts r) in
-    let a = unanswered-entered u ts r in
-    let b = untold-less u us ts in
-    let d = untold-cons u us ts in
+pub unanswered_all : (us : List ℕ) (ts : List Told) → rising (names ts) ≡ true → length (unanswered (entered_all us ts)) ≤ length (unanswered ts) + length (untold us ts)
+unanswered_all [] ts r = omega arith
+unanswered_all (u ∷ us) ts r =
+    let i = unanswered_all us (entered u ts) (rising_entered u ts r) in
+    let a = unanswered_entered u ts r in
+    let b = untold_less u us ts in
+    let d = untold_cons u us ts in
     omega arith
 
-pub length-unanswered : (ts : List Told) → length (unanswered ts) ≤ length ts
-length-unanswered [] = omega arith
-length-unanswered (t ∷ ts) = let i = length-unanswered ts in ⊎-elim (λ e. rw e (omega arith)) (λ e. rw e (omega arith)) (cases-bool (t .answered))
+pub length_unanswered : (ts : List Told) → length (unanswered ts) ≤ length ts
+length_unanswered [] = omega arith
+length_unanswered (t ∷ ts) = let i = length_unanswered ts in ⊎_elim (λ e. rw e (omega arith)) (λ e. rw e (omega arith)) (cases_Bool t.answered)
 
-pub untold-one : (o : ℕ) (ts : List Told) → isIn o (names ts) ≡ false → length (untold (o ∷ []) ts) ≡ 1
-untold-one o ts e = rw e
+pub untold_one : (o : ℕ) (ts : List Told) → is_in o (names ts) ≡ false → length (untold (o ∷ []) ts) ≡ 1
+untold_one o ts e = rw e
 
 -- the same in the table
-pub table-entered : (o k : ℕ) (ts : List table.Told) (x : table.Told) → shown x ≡ awaited o → isIn o (names (toldOf ts)) ≡ false → k ≡ below o (names (toldOf ts)) → toldOf (inserted ts k x) ≡ entered o (toldOf ts)
-table-entered o k ts x e out b =
+pub table_entered : (o k : ℕ) (ts : List table.Told) (x : table.Told) → shown x ≡ awaited o → is_in o (names (told_of ts)) ≡ false → k ≡ below o (names (told_of ts)) → told_of (insert ts k x) ≡ entered o (told_of ts)
+table_entered o k ts x e out b =
     map-append shown (take k ts) (x ∷ drop k ts)
-    ∙ ap (λ xs. xs ++ shown x ∷ toldOf (drop k ts)) (sym (take-map shown k ts))
-    ∙ ap (λ xs. take k (toldOf ts) ++ shown x ∷ xs) (sym (drop-map shown k ts))
-    ∙ ap (λ y. inserted (toldOf ts) k y) e
-    ∙ ap (λ j. inserted (toldOf ts) j (awaited o)) b
-    ∙ entered-out o (toldOf ts) out
+    ∙ ap (λ xs. xs ++ shown x ∷ told_of (drop k ts)) (sym (take-map shown k ts))
+    ∙ ap (λ xs. take k (told_of ts) ++ shown x ∷ xs) (sym (drop-map shown k ts))
+    ∙ ap (λ y. insert (told_of ts) k y) e
+    ∙ ap (λ j. insert (told_of ts) j (awaited o)) b
+    ∙ entered_out o (told_of ts) out

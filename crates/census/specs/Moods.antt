@@ -1,8 +1,8 @@
 -- What each mood says in a reply.
-use mathlib.Core.Bool.{Bool, true, false}
-use Rattle·census·specs.declared.mood.Mood.{Mood}
-use Rattle·census·specs.declared.mood.Mood.the-variants.{Calm, Restless}
+use Rattle.std.specs.Prelude.{Bool, true, false}
+use Rattle.census.specs.declared.mood.Mood.{Mood}
+use Rattle.census.specs.declared.mood.Mood.TheVariants.{Calm, Restless}
 
-abbrev pub isCalm : Mood → Bool
-isCalm Calm = true
-isCalm Restless = false
+abbrev pub is_calm : Mood → Bool
+is_calm Calm = true
+is_calm Restless = false

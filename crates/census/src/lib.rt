@@ -9,7 +9,6 @@ mod tell;
 mod telling;
 
 pub use mood::Mood;
-pub use rounds::ASKER;
-pub use rounds::is_asker;
+pub use rounds::{ASKER, is_asker};
 pub use standing::Standing;
 pub use steps::Marked;

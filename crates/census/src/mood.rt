@@ -1,5 +1,5 @@
-ghost use mathlib.Core.Path.{_≡_};
-ghost use Rattle·census·specs.Moods.{isCalm};
+ghost use Rattle.std.specs.Prelude.{◌≡◌};
+ghost use Rattle.census.specs.Moods.{is_calm};
 
 // What a house says of itself when a round asks it.
 #[derive(Clone, Copy)]
@@ -13,7 +13,7 @@ pub enum Mood {
 impl Mood {
     // As a reply says it.
     pub fn is_calm(self) -> bool
-        ensures { λ r. ⌜ r ≡ isCalm self ⌝ }
+        ensures { result ≡ is_calm self }
     {
         match self {
             Mood::Calm => true,
@@ -23,7 +23,7 @@ impl Mood {
 
     // The mood that a reply tells of.
     pub fn from_calm(calm: bool) -> Mood
-        ensures { λ r. ⌜ isCalm r ≡ calm ⌝ }
+        ensures { is_calm result ≡ calm }
     {
         if calm { Mood::Calm } else { Mood::Restless }
     }

@@ -1,5 +1,6 @@
-ghost use mathlib.Core.Path.{_≡_};
-ghost use Rattle·census·specs.Model.{asks};
+ghost use Rattle.std.specs.Prelude.{◌≡◌};
+ghost use Rattle.census.specs.Model.{asks};
+
 use wire::House;
 
 // The house that asks the rounds, to which every reply goes.
@@ -7,7 +8,7 @@ pub const ASKER: House = House(0);
 
 // Whether this house asks the rounds.
 pub fn is_asker(house: House) -> bool
-    ensures { λ r. ⌜ r ≡ asks (house .0) ⌝ }
+    ensures { result ≡ asks house.0 }
 {
     house.0 == ASKER.0
 }

@@ -1,12 +1,10 @@
-ghost use mathlib.Core.Path.{_≡_};
-ghost use mathlib.Core.Bool.{true};
-ghost use Rattle·std.specs.Of.Vec.{vec-items};
-ghost use Rattle·census·specs.Lists.{rising};
-ghost use Rattle·census·specs.Model.{names};
-ghost use Rattle·census·specs.Shown.{toldOf};
+ghost use Rattle.std.specs.Prelude.{◌≡◌, true};
+ghost use Rattle.census.specs.Lists.{rising};
+ghost use Rattle.census.specs.Model.{names};
+ghost use Rattle.census.specs.Shown.{told_of};
+
 use crate::telling::Told;
-use wire::Census;
-use wire::Tally;
+use wire::{Census, Tally};
 
 // How a house stands to round 1, the first time in a census that every house is asked whether it is calm.
 #[derive(Clone, Copy)]
@@ -28,5 +26,5 @@ pub struct Standing {
     // how many lines got this census's number because of a telling
     pub(crate) tally: Tally,
     pub(crate) first: FirstRound,
-    ghost ordered: { rising (names (toldOf (vec-items told))) ≡ true },
+    ghost ordered: { rising (names (told_of told.items)) ≡ true },
 }

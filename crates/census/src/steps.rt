@@ -1,13 +1,11 @@
-ghost use mathlib.Core.Path.{_≡_};
-ghost use Rattle·census·specs.Laws.{Laws};
-ghost use Rattle·census·specs.Model.{fresh, joined, joining, counting, stirring};
-ghost use Rattle·census·specs.Standings.{partOf, newly};
-use crate::standing::FirstRound;
-use crate::standing::Standing;
+ghost use Rattle.std.specs.Prelude.{◌≡◌};
+ghost use Rattle.census.specs.Laws.{Laws};
+ghost use Rattle.census.specs.Model.{fresh, joined, joining, counting, stirring};
+ghost use Rattle.census.specs.Standings.{part_of, newly};
+
+use crate::standing::{FirstRound, Standing};
 use std::alloc::Global;
-use wire::Census;
-use wire::Refusal;
-use wire::Tally;
+use wire::{Census, Refusal, Tally};
 
 // What a telling did to the line of its object and its house.
 #[derive(Clone, Copy)]
@@ -23,8 +21,8 @@ pub enum Marked {
 impl Standing {
     // The part of a house in census 0, before the first.
     pub fn new(heap: Global) -> Standing
-        ensures value { λ r. ⌜ partOf r ≡ fresh 0 ⌝ }
-        ensures lawful { λ _. ⌜ Laws ⌝ }
+        ensures value { part_of result ≡ fresh 0 }
+        ensures lawful { Laws }
     {
         Standing {
             census: Census(0),
@@ -36,22 +34,22 @@ impl Standing {
 
     // The number of the census that the house is in.
     pub fn census(&self) -> Census
-        ensures { λ r. ⌜ r .0 ≡ partOf (now (self .entry)) .census ⌝ }
+        ensures { result.0 ≡ (part_of self.now).census }
     {
         self.census
     }
 
     // How many lines of the list were newly marked in it.
     pub fn tally(&self) -> Tally
-        ensures { λ r. ⌜ r .0 ≡ partOf (now (self .entry)) .tally ⌝ }
+        ensures { result.0 ≡ (part_of self.now).tally }
     {
         self.tally
     }
 
     // The house joins a census, which has to be above its own.
     pub fn join(self, census: Census) -> (Standing, Result<(), Refusal>)
-        ensures value { λ r. ⌜ r .1 ≡ joining (census .0) (partOf self) ⌝ }
-        ensures after { λ r. ⌜ partOf (r .0) ≡ joined (census .0) (partOf self) ⌝ }
+        ensures value { result.1 ≡ joining census.0 (part_of self) }
+        ensures after { part_of result.0 ≡ joined census.0 (part_of self) }
     {
         if census.0 <= self.census.0 {
             return (self, Err(Refusal::OutOfNumbers));
@@ -61,7 +59,7 @@ impl Standing {
 
     // All begins anew in this census.
     fn begun(mut self, census: Census) -> Standing
-        ensures { λ r. ⌜ partOf r ≡ fresh (census .0) ⌝ }
+        ensures { part_of result ≡ fresh census.0 }
     {
         self.census = census;
         self.told.clear();
@@ -72,7 +70,7 @@ impl Standing {
 
     // A telling came: the tally grows if it gave a line its number.
     pub fn counted(mut self, line: Marked) -> Standing
-        ensures { λ r. ⌜ partOf r ≡ counting (newly line) (partOf self) ⌝ }
+        ensures { part_of result ≡ counting (newly line) (part_of self) }
     {
         let newly = match line {
             Marked::New => 1,
@@ -85,7 +83,7 @@ impl Standing {
 
     // The house has taken a reference that was handed to it.
     pub fn taken(mut self) -> Standing
-        ensures { λ r. ⌜ partOf r ≡ stirring (partOf self) ⌝ }
+        ensures { part_of result ≡ stirring (part_of self) }
     {
         if let FirstRound::Polled = self.first {
             self.first = FirstRound::Stirred;

@@ -1,21 +1,15 @@
-ghost use mathlib.Core.Path.{_≡_};
-ghost use mathlib.Core.Bool.{true};
-ghost use mathlib.Core.List.{_∷_, [], _++_};
-ghost use Prim.Native.Nat.{_+_, _<_, _≤_};
-ghost use lib.ListN.{length};
-ghost use Rattle·std.specs.Of.Vec.{vec-items, vec-len, vec-cap};
-ghost use Rattle·std.specs.Results.{Cases};
-ghost use Rattle·census·specs.Lists.{rising, below, placeOf, numbers};
-ghost use Rattle·census·specs.Model.{names, settled, untold, unanswered, entered, enteredAll};
-ghost use Rattle·census·specs.Shown.{toldOf};
-use crate::telling::Telling;
-use crate::telling::Told;
+ghost use Rattle.std.specs.Prelude.{◌≡◌, ◌+◌, ◌<◌, ◌≤◌, true, [], ◌∷◌, ◌++◌, length, vec_len, vec_capacity, MatchResult};
+ghost use Rattle.census.specs.Lists.{rising, below, place_of, numbers};
+ghost use Rattle.census.specs.Model.{names, settled, untold, unanswered, entered, entered_all};
+ghost use Rattle.census.specs.Shown.{told_of};
+
+use crate::telling::{Telling, Told};
 use wire::Name;
 
 // How many of the told stand before the place of `o`.
 pub(crate) fn place(told: &[Told], o: Name) -> usize
-    requires { ⌜ rising (names (toldOf (now told))) ≡ true ⌝ }
-    ensures { λ r. ⌜ r ≡ below (o .0) (names (toldOf (now (told .entry)))) ⌝ }
+    requires { rising (names (told_of told.now)) ≡ true }
+    ensures { result ≡ below o.0 (names (told_of told.now)) }
 {
     let mut low = 0;
     let mut high = told.len();
@@ -32,9 +26,9 @@ pub(crate) fn place(told: &[Told], o: Name) -> usize
 
 // The place of `o` among the told, or the place that it would have.
 pub(crate) fn find(told: &[Told], o: Name) -> Result<usize, usize>
-    requires { ⌜ rising (names (toldOf (now told))) ≡ true ⌝ }
-    ensures value { λ r. ⌜ r ≡ placeOf (o .0) (names (toldOf (now (told .entry)))) ⌝ }
-    ensures within { λ r. ⌜ Cases r (λ at. at < length (now (told .entry))) (λ at. at ≤ length (now (told .entry))) ⌝ }
+    requires { rising (names (told_of told.now)) ≡ true }
+    ensures value { result ≡ place_of o.0 (names (told_of told.now)) }
+    ensures within { MatchResult result (λ at. at < length told.now) (λ at. at ≤ length told.now) }
 {
     let at = place(told, o);
     if at < told.len() && told[at].object.0 == o.0 {
@@ -46,9 +40,9 @@ pub(crate) fn find(told: &[Told], o: Name) -> Result<usize, usize>
 
 // The telling of `o`, if there is one, is answered.
 pub(crate) fn settle(told: &mut Vec<Told>, o: Name)
-    requires { ⌜ rising (names (toldOf (vec-items (now told)))) ≡ true ⌝ }
-    ensures after { λ _. ⌜ toldOf (vec-items (now (told .exit))) ≡ settled (o .0) (toldOf (vec-items (now (told .entry)))) ⌝ }
-    ensures same { λ _. ⌜ names (toldOf (vec-items (now (told .exit)))) ≡ names (toldOf (vec-items (now (told .entry)))) ⌝ }
+    requires { rising (names (told_of told.old.items)) ≡ true }
+    ensures after { told_of told.new.items ≡ settled o.0 (told_of told.old.items) }
+    ensures same { names (told_of told.new.items) ≡ names (told_of told.old.items) }
 {
     let Ok(at) = find(told, o) else {
         return;
@@ -61,8 +55,8 @@ pub(crate) fn settle(told: &mut Vec<Told>, o: Name)
 
 // How many of these names were not told.
 pub(crate) fn count_untold(told: &[Told], in_use: &[Name]) -> usize
-    requires { ⌜ rising (names (toldOf (now told))) ≡ true ⌝ }
-    ensures { λ r. ⌜ r ≡ length (untold (numbers (now («in_use» .entry))) (toldOf (now (told .entry)))) ⌝ }
+    requires { rising (names (told_of told.now)) ≡ true }
+    ensures { result ≡ length (untold (numbers in_use.now) (told_of told.now)) }
 {
     let mut count = 0;
     for o in in_use {
@@ -76,8 +70,8 @@ pub(crate) fn count_untold(told: &[Told], in_use: &[Name]) -> usize
 
 // How many of the told are not answered.
 pub(crate) fn count_unanswered(told: &[Told]) -> usize
-    ensures value { λ r. ⌜ r ≡ length (unanswered (toldOf (now (told .entry)))) ⌝ }
-    ensures bound { λ r. ⌜ r ≤ length (now (told .entry)) ⌝ }
+    ensures value { result ≡ length (unanswered (told_of told.now)) }
+    ensures bound { result ≤ length told.now }
 {
     let mut count = 0;
     for t in told {
@@ -91,10 +85,10 @@ pub(crate) fn count_unanswered(told: &[Told]) -> usize
 
 // `o` is told, unless it was. There is room for it.
 pub(crate) fn enter(told: &mut Vec<Told>, o: Name)
-    requires rises { ⌜ rising (names (toldOf (vec-items (now told)))) ≡ true ⌝ }
-    requires room { ⌜ vec-len (now told) + length (untold (o .0 ∷ []) (toldOf (vec-items (now told)))) ≤ vec-cap (now told) ⌝ }
-    ensures after { λ _. ⌜ toldOf (vec-items (now (told .exit))) ≡ entered (o .0) (toldOf (vec-items (now (told .entry)))) ⌝ }
-    ensures room { λ _. ⌜ vec-cap (now (told .entry)) ≤ vec-cap (now (told .exit)) ⌝ }
+    requires rises { rising (names (told_of told.old.items)) ≡ true }
+    requires room { vec_len told.old + length (untold (o.0 ∷ []) (told_of told.old.items)) ≤ vec_capacity told.old }
+    ensures after { told_of told.new.items ≡ entered o.0 (told_of told.old.items) }
+    ensures room { vec_capacity told.old ≤ vec_capacity told.new }
 {
     let Err(at) = find(told, o) else {
         return;
@@ -109,11 +103,11 @@ pub(crate) fn enter(told: &mut Vec<Told>, o: Name)
 
 // All these are told. There is room for them.
 pub(crate) fn enter_all(told: &mut Vec<Told>, in_use: &[Name])
-    requires rises { ⌜ rising (names (toldOf (vec-items (now told)))) ≡ true ⌝ }
-    requires room { ⌜ vec-len (now told) + length (untold (numbers (now «in_use»)) (toldOf (vec-items (now told)))) ≤ vec-cap (now told) ⌝ }
-    ensures after { λ _. ⌜ toldOf (vec-items (now (told .exit))) ≡ enteredAll (numbers (now («in_use» .entry))) (toldOf (vec-items (now (told .entry)))) ⌝ }
-    ensures rises { λ _. ⌜ rising (names (toldOf (vec-items (now (told .exit))))) ≡ true ⌝ }
-    ensures few { λ _. ⌜ length (unanswered (toldOf (vec-items (now (told .exit))))) ≤ length (unanswered (toldOf (vec-items (now (told .entry))))) + length (untold (numbers (now («in_use» .entry))) (toldOf (vec-items (now (told .entry))))) ⌝ }
+    requires rises { rising (names (told_of told.old.items)) ≡ true }
+    requires room { vec_len told.old + length (untold (numbers in_use.now) (told_of told.old.items)) ≤ vec_capacity told.old }
+    ensures after { told_of told.new.items ≡ entered_all (numbers in_use.now) (told_of told.old.items) }
+    ensures rises { rising (names (told_of told.new.items)) ≡ true }
+    ensures few { length (unanswered (told_of told.new.items)) ≤ length (unanswered (told_of told.old.items)) + length (untold (numbers in_use.now) (told_of told.old.items)) }
 {
     for o in in_use {
         enter(told, *o);
@@ -122,8 +116,8 @@ pub(crate) fn enter_all(told: &mut Vec<Told>, in_use: &[Name])
 
 // The told that are not answered go to the end of a list that has room for them.
 pub(crate) fn list_unanswered(told: &[Told], due: &mut Vec<Name>)
-    requires { ⌜ vec-len (now due) + length (unanswered (toldOf (now told))) ≤ vec-cap (now due) ⌝ }
-    ensures { λ _. ⌜ numbers (vec-items (now (due .exit))) ≡ numbers (vec-items (now (due .entry))) ++ unanswered (toldOf (now (told .entry))) ⌝ }
+    requires { vec_len due.old + length (unanswered (told_of told.now)) ≤ vec_capacity due.old }
+    ensures { numbers due.new.items ≡ numbers due.old.items ++ unanswered (told_of told.now) }
 {
     for t in told {
         match t.state {

@@ -1,19 +1,17 @@
 // What both programs do with their arguments, standard input and standard output.
+use anyhow::anyhow;
 use std::alloc::Global;
 use std::env;
-use std::error::AnyError;
-use std::io::BufRead;
-use std::io::BufReader;
-use std::io::Write;
+use std::io::{BufRead, BufReader, Write};
 
 // Answers lines one by one.
 pub trait Player {
     // What this line, which has no newline, leads to is appended to `out` as text.
-    fn answer(&mut self, line: &[u8], out: &mut String) -> Result<(), AnyError>;
+    fn answer(&mut self, line: &[u8], out: &mut String) -> anyhow::Result<()>;
 }
 
 // The arguments as decimal numbers, or none where one of them is not.
-pub fn arguments(rt: &LibcRuntime) -> Result<Option<Vec<u64>>, AnyError> {
+pub fn arguments(rt: &HostRuntime) -> anyhow::Result<Option<Vec<u64>>> {
     let mut numbers = Vec::new(rt.alloc());
     for argument in env::args(rt)?.skip(1) {
         let Some(number) = text::decimal_value(argument.as_bytes()) else {
@@ -25,15 +23,15 @@ pub fn arguments(rt: &LibcRuntime) -> Result<Option<Vec<u64>>, AnyError> {
 }
 
 // Says how the program is used; the error ends it with status 1.
-pub fn wrong_arguments(rt: &LibcRuntime, usage: &str) -> Result<(), AnyError> {
-    eprintln!(rt, "{usage}")?;
-    Err("wrong arguments".into())
+pub fn wrong_arguments(rt: &HostRuntime, usage: &str) -> anyhow::Result<()> {
+    eprintln!(rt; "{usage}")?;
+    Err(anyhow!("wrong arguments"))
 }
 
 // Plays standard input to its end. What a line leads to is written before the next is read, so that a person or a pipe may wait for it.
-pub fn play<P: Player>(rt: &LibcRuntime, player: &mut P) -> Result<(), AnyError> {
+pub fn play<P: Player>(rt: &HostRuntime, player: &mut P) -> anyhow::Result<()> {
     let heap = rt.alloc();
-    let mut input = BufReader::new(rt.stdin());
+    let mut input = BufReader::new(heap, rt.stdin())?;
     let mut output = rt.stdout();
     let mut line = Vec::new(heap);
     let mut out = String::new(heap);

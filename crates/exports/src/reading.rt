@@ -1,15 +1,15 @@
-ghost use mathlib.Core.Path.{_≡_};
-ghost use Rattle·wire.specs.Format.{decode};
-ghost use Rattle·wire.specs.Refusals.{numberOf};
-ghost use Rattle·exports·specs.Saying.{nothing, saidOf, said, refused};
+ghost use Rattle.std.specs.Prelude.{◌≡◌};
+ghost use Rattle.wire.specs.Format.{decode};
+ghost use Rattle.wire.specs.Refusals.{number_of};
+ghost use Rattle.exports.specs.Saying.{nothing, said_of, said, refused};
+
 use crate::said::Said;
-use wire::Message;
-use wire::Refusal;
+use wire::{Message, Refusal};
 
 // What these bytes say among `houses` houses.
 #[unsafe(no_mangle)]
 pub extern "C" fn exports_read(bytes: &[u8], houses: u8) -> Said
-    ensures { λ r. ⌜ r ≡ said (decode houses (now (bytes .entry))) ⌝ }
+    ensures { result ≡ said (decode houses bytes.now) }
 {
     match wire::read(bytes, houses) {
         Ok(read) => parts(read.message),
@@ -18,7 +18,7 @@ pub extern "C" fn exports_read(bytes: &[u8], houses: u8) -> Said
 }
 
 fn nothing() -> Said
-    ensures { λ r. ⌜ r ≡ nothing ⌝ }
+    ensures { result ≡ nothing }
 {
     Said {
         refusal: 0,
@@ -37,7 +37,7 @@ fn nothing() -> Said
 }
 
 fn no(refusal: Refusal) -> Said
-    ensures { λ r. ⌜ r ≡ refused (numberOf refusal) ⌝ }
+    ensures { result ≡ refused (number_of refusal) }
 {
     Said {
         refusal: refusal.number(),
@@ -46,7 +46,7 @@ fn no(refusal: Refusal) -> Said
 }
 
 fn parts(message: Message) -> Said
-    ensures { λ r. ⌜ r ≡ saidOf message ⌝ }
+    ensures { result ≡ said_of message }
 {
     match message {
         Message::Ask { object, by, to } => Said {

@@ -1,12 +1,11 @@
 // One house: calls and messages come as lines on standard input, and what it sends goes to standard output.
+use anyhow::anyhow;
 use console::Player;
 use node::Answer;
 use std::alloc::Global;
-use std::error::AnyError;
 use store::Store;
 use text::Line;
-use wire::House;
-use wire::Refusal;
+use wire::{House, Refusal};
 
 const USAGE: &str =
     "usage: house I N   (house I of N, with N from 1 to 16 and I below N; calls on standard input)";
@@ -18,7 +17,7 @@ struct Own {
 }
 
 impl Own {
-    fn got(&mut self, digits: &[u8]) -> Result<Answer, AnyError> {
+    fn got(&mut self, digits: &[u8]) -> anyhow::Result<Answer> {
         let Some(bytes) = text::read_hex(self.heap, digits)? else {
             return Ok(Answer::Refused(Refusal::Malformed));
         };
@@ -27,7 +26,7 @@ impl Own {
 }
 
 // What was sent, a message a line, or why nothing was done.
-fn report(heap: Global, answer: Answer, out: &mut String) -> Result<(), AnyError> {
+fn report(heap: Global, answer: Answer, out: &mut String) -> anyhow::Result<()> {
     match answer {
         Answer::Sends(sent) => {
             let mut messages = Vec::new(heap);
@@ -42,12 +41,12 @@ fn report(heap: Global, answer: Answer, out: &mut String) -> Result<(), AnyError
             text::write_refusal(refusal, out)?;
             Ok(())
         }
-        Answer::NoMemory => Err("out of memory".into()),
+        Answer::NoMemory => Err(anyhow!("out of memory")),
     }
 }
 
-impl Player for Own as OwnPlayer {
-    fn answer(&mut self, line: &[u8], out: &mut String) -> Result<(), AnyError> {
+impl Player for Own {
+    fn answer(&mut self, line: &[u8], out: &mut String) -> anyhow::Result<()> {
         let answer = match text::read_line(line) {
             Line::Blank => return Ok(()),
             Line::Call(call) => self.store.call(call),
@@ -69,7 +68,7 @@ fn named(heap: Global, arguments: &[u64]) -> Option<Store> {
     Store::new(heap, House(*own as u8), *houses as u8).ok()
 }
 
-fn main(rt: LibcRuntime) -> Result<(), AnyError> {
+fn main(rt: HostRuntime) -> anyhow::Result<()> {
     let heap = rt.alloc();
     let Some(arguments) = console::arguments(&rt)? else {
         return console::wrong_arguments(&rt, USAGE);
@@ -78,5 +77,5 @@ fn main(rt: LibcRuntime) -> Result<(), AnyError> {
         return console::wrong_arguments(&rt, USAGE);
     };
     let mut player = Own { heap, store };
-    rt.report(console::play(&rt, &mut player))
+    console::play(&rt, &mut player)
 }

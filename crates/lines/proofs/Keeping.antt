@@ -1,18 +1,15 @@
 -- What the type of a list says, in terms of its lines.
-use mathlib.Core.Path.{_≡_, refl, sym, ap, subst, _∙_}
-use mathlib.Core.Logic.{_⊎_, inl, inr, ⊎-elim}
-use mathlib.Core.List.{List, [], _∷_, List·Memᴰ, List·Memᴰ·cases-cons, List·Memᴰ·not-nil}
-use Prim.Native.Nat.{ℕ, zero, suc, _+_, _<_, _≤_}
-use native.Mathlib.Omega.{arith}
-use lib.ListN.{length, getD}
-use Rattle·std.proofs.shelf.Tests.{cases-order}
-use Rattle·wire.specs.Names.{home}
-use Rattle·lines·specs.Listed.{Listed}
-use Rattle·lines·specs.Columns.{rows}
-use Rattle·lines·specs.Laws.{Kept}
-use Rattle·lines·specs.Lists.{lines, rowOf}
-use Rattle·lines·specs.declared.table.Lines.{Lines}
-use Rattle·lines·proofs.Rows.{length-rows}
+use Rattle.std.proofs.Common.{◌≡◌, ℕ, zero, suc, ◌+◌, ◌<◌, ◌≤◌, ◌⊎◌, List, [], ◌∷◌, length, get_or, sym, refl, ap, ◌∙◌, subst, inl, inr, ⊎_elim, arith}
+use mathlib.Core.List.Memᴰ
+use mathlib.Core.List.{Memᴰ}
+use Rattle.std.proofs.lemmas.Bool.{cases_order}
+use Rattle.wire.specs.Names.{home}
+use Rattle.lines.specs.Listed.{Listed}
+use Rattle.lines.specs.Columns.{rows}
+use Rattle.lines.specs.Laws.{Kept}
+use Rattle.lines.specs.Lists.{lines, row_of}
+use Rattle.lines.specs.declared.table.Lines.{Lines}
+use Rattle.lines.proofs.Rows.{length_rows}
 
 record At (f : ℕ → Listed) (i n : ℕ) (e : Listed) : Type 0 where
   at : ℕ
@@ -20,28 +17,28 @@ record At (f : ℕ → Listed) (i n : ℕ) (e : Listed) : Type 0 where
   to : at < i + n
   is : e ≡ f at
 
-row-at : (f : ℕ → Listed) (i n : ℕ) (e : Listed) → List·Memᴰ e (rows f i n) → At f i n e
+row_at : (f : ℕ → Listed) (i n : ℕ) (e : Listed) → Memᴰ e (rows f i n) → At f i n e
 unfolding rows
-row-at f i zero e m = absurd (List·Memᴰ·not-nil m)
-row-at f i (suc n) e m =
-    ⊎-elim
+row_at f i zero e m = absurd (Memᴰ.not-nil m)
+row_at f i (suc n) e m =
+    ⊎_elim
     (λ q. record { at = i; from = omega arith; to = omega arith; is = q })
-    (λ r. let w = row-at f (i + 1) n e r in record { at = w .at; from = omega (arith, w .from); to = omega (arith, w .to); is = w .is })
-    (List·Memᴰ·cases-cons m)
+    (λ r. let w = row_at f (i + 1) n e r in record { at = w.at; from = omega (arith, w.from); to = omega (arith, w.to); is = w.is })
+    (Memᴰ.cases_cons m)
 
-pub kept : (t : Lines) → Kept (t .home .0) (t .houses) (lines t)
+pub kept : (t : Lines) → Kept t.home.0 t.houses (lines t)
 kept t = record {
   one = λ e f m n o j.
-      let a = row-at (rowOf t) 0 (t .len) e m in
-      let b = row-at (rowOf t) 0 (t .len) f n in
-      let p : getD (t .objects .now) (a .at) 0 ≡ getD (t .objects .now) (b .at) 0 = sym (ap (λ (x : Listed). x .object) (a .is)) ∙ o ∙ ap (λ (x : Listed). x .object) (b .is) in
-      let q : getD (t .holders .now) (a .at) 0 ≡ getD (t .holders .now) (b .at) 0 = sym (ap (λ (x : Listed). x .holder) (a .is)) ∙ j ∙ ap (λ (x : Listed). x .holder) (b .is) in
-      ⊎-elim
-      (λ r. a .is ∙ ap (rowOf t) r ∙ sym (b .is))
-      (λ r. ⊎-elim (λ l. absurd (t .alone (a .at) (b .at) (l, omega (arith, b .to), p, q))) (λ l. absurd (t .alone (b .at) (a .at) (l, omega (arith, a .to), sym p, sym q))) r)
-      (cases-order (a .at) (b .at));
-  few = subst (λ n. n ≤ 2048) (sym (length-rows (rowOf t) 0 (t .len))) (omega (arith, t .within, t .most));
-  own = λ e m. let a = row-at (rowOf t) 0 (t .len) e m in ap (λ (x : Listed). home (x .object)) (a .is) ∙ t .own (a .at) (omega (arith, a .to));
-  apart = λ e m q. let a = row-at (rowOf t) 0 (t .len) e m in t .far (a .at) (omega (arith, a .to)) .0 (sym (ap (λ (x : Listed). x .holder) (a .is)) ∙ q);
-  below = λ e m. let a = row-at (rowOf t) 0 (t .len) e m in subst (λ n. n < t .houses) (sym (ap (λ (x : Listed). x .holder) (a .is))) (t .far (a .at) (omega (arith, a .to)) .1);
+      let a = row_at (row_of t) 0 t.len e m in
+      let b = row_at (row_of t) 0 t.len f n in
+      let p : get_or t.objects.now a.at 0 ≡ get_or t.objects.now b.at 0 = sym (ap (λ (x : Listed). x.object) a.is) ∙ o ∙ ap (λ (x : Listed). x.object) b.is in
+      let q : get_or t.holders.now a.at 0 ≡ get_or t.holders.now b.at 0 = sym (ap (λ (x : Listed). x.holder) a.is) ∙ j ∙ ap (λ (x : Listed). x.holder) b.is in
+      ⊎_elim
+      (λ r. a.is ∙ ap (row_of t) r ∙ sym b.is)
+      (λ r. ⊎_elim (λ l. absurd (t.alone a.at b.at (l, omega (arith, b.to), p, q))) (λ l. absurd (t.alone b.at a.at (l, omega (arith, a.to), sym p, sym q))) r)
+      (cases_order a.at b.at);
+  few = subst (λ n. n ≤ 2048) (sym (length_rows (row_of t) 0 t.len)) (omega (arith, t.within, t.most));
+  own = λ e m. let a = row_at (row_of t) 0 t.len e m in ap (λ (x : Listed). home x.object) a.is ∙ t.own a.at (omega (arith, a.to));
+  apart = λ e m q. let a = row_at (row_of t) 0 t.len e m in (t.far a.at (omega (arith, a.to))).0 (sym (ap (λ (x : Listed). x.holder) a.is) ∙ q);
+  below = λ e m. let a = row_at (row_of t) 0 t.len e m in subst (λ n. n < t.houses) (sym (ap (λ (x : Listed). x.holder) a.is)) (t.far a.at (omega (arith, a.to))).1;
 }

@@ -1,130 +1,119 @@
 -- Laws of places: a search, and what is found or new.
-use mathlib.Core.Path.{_≡_, refl, sym, ap, _∙_}
-use mathlib.Core.Bool.{Bool, true, false, cond, _&&_, _||_}
-use mathlib.Core.Logic.{_⊎_, inl, inr, ⊎-elim, _≢_}
-use mathlib.Core.List.{List, [], _∷_, _++_}
-use Prim.Native.Nat.{ℕ, zero, suc, _+_, _-_, _<_, _≤_}
-use native.Mathlib.Omega.{arith}
-use lib.Dec.{eqb}
-use lib.ListN.{length, getD, set}
-use lib.Seq.{getD-set-same, getD-set-other}
-use Rattle·std.proofs.shelf.Tests.{eq-eqb, ne-eqb, eqb-true, and-parts, and-left, and-right, cases-bool, cases-eq, cond-true, cond-false}
-use Rattle·std.specs.Options.{isSome}
-use Rattle·std.specs.declared.option.Option.{Option}
-use Rattle·std.specs.declared.option.Option.the-variants.{Some, None}
-use Rattle·lines·specs.Listed.{Listed, line, isOf, listed, place, entered}
-use Rattle·lines·specs.Columns.{row, rows, model}
-use Rattle·lines·proofs.Rows.{rows-more, rows-none, rows-same, line-same}
+use Rattle.std.proofs.Common.{◌≡◌, ℕ, zero, suc, ◌+◌, ◌-◌, ◌<◌, ◌≤◌, Bool, true, false, cond, ◌&&◌, ◌||◌, eqb, ◌≢◌, ◌⊎◌, List, [], ◌∷◌, ◌++◌, length, get_or, set, is_some, Some, None, Option, sym, refl, ap, ◌∙◌, inl, inr, ⊎_elim, arith, get_or-set_other, get_or-set_same}
+use Rattle.std.proofs.lemmas.Bool.{eq-eqb, ne_eqb, eqb-true, and_parts, and_left, and_right, cases_Bool, cases_eq, cond-true, cond-false}
+use Rattle.lines.specs.Listed.{Listed, line, is_of, listed, place, entered}
+use Rattle.lines.specs.Columns.{row, rows, model}
+use Rattle.lines.proofs.Rows.{rows_more, rows_none, rows_same, line_same}
 
 module _ (o j : ℕ) where
-  pub place-yes : (k : ℕ) (e : Listed) (es : List Listed) → isOf o j e ≡ true → place o j k (e ∷ es) ≡ Some k
+  pub place_yes : (k : ℕ) (e : Listed) (es : List Listed) → is_of o j e ≡ true → place o j k (e ∷ es) ≡ Some k
   unfolding place
-  place-yes k e es p = cond-true (isOf o j e) (Some k) (place o j (k + 1) es) p
+  place_yes k e es p = cond-true (is_of o j e) (Some k) (place o j (k + 1) es) p
 
-  pub place-no : (k : ℕ) (e : Listed) (es : List Listed) → isOf o j e ≡ false → place o j k (e ∷ es) ≡ place o j (k + 1) es
+  pub place_no : (k : ℕ) (e : Listed) (es : List Listed) → is_of o j e ≡ false → place o j k (e ∷ es) ≡ place o j (k + 1) es
   unfolding place
-  place-no k e es p = cond-false (isOf o j e) (Some k) (place o j (k + 1) es) p
+  place_no k e es p = cond-false (is_of o j e) (Some k) (place o j (k + 1) es) p
 
-  pub listed-place : (k : ℕ) (es : List Listed) → isSome (place o j k es) ≡ listed o j es
+  pub listed_place : (k : ℕ) (es : List Listed) → is_some (place o j k es) ≡ listed o j es
   unfolding place listed
-  listed-place k [] = refl
-  listed-place k (e ∷ es) =
-      elim (isOf o j e) as (λ b. isSome (cond b (Some k) (place o j (k + 1) es)) ≡ (b || listed o j es)) [ true ↦ refl | false ↦ listed-place (k + 1) es ]
+  listed_place k [] = refl
+  listed_place k (e ∷ es) =
+      elim (is_of o j e) as (λ b. is_some (cond b (Some k) (place o j (k + 1) es)) ≡ (b || listed o j es)) [ true ↦ refl | false ↦ listed_place (k + 1) es ]
 
-  pub entered-none : (s c k : ℕ) (es : List Listed) → place o j k es ≡ None → entered o j s c es ≡ es ++ line o j s c ∷ []
+  pub entered_none : (s c k : ℕ) (es : List Listed) → place o j k es ≡ None → entered o j s c es ≡ es ++ line o j s c ∷ []
   unfolding place entered
-  entered-none s c k [] e = refl
-  entered-none s c k (x ∷ es) e =
-      ⊎-elim
+  entered_none s c k [] e = refl
+  entered_none s c k (x ∷ es) e =
+      ⊎_elim
       (λ t.
-      let u : Some k ≡ None = sym (cond-true (isOf o j x) (Some k) (place o j (k + 1) es) t) ∙ e in
-      let z : _≡_ {A = ℕ} 0 1 = cc in absurd (omega arith))
+      let u : Some k ≡ None = sym (cond-true (is_of o j x) (Some k) (place o j (k + 1) es) t) ∙ e in
+      let z : ◌≡◌ {A = ℕ} 0 1 = cc in absurd (omega arith))
       (λ t.
-      let u = sym (cond-false (isOf o j x) (Some k) (place o j (k + 1) es) t) ∙ e in
-      cond-false (isOf o j x) (line o j s c ∷ es) (x ∷ entered o j s c es) t ∙ ap (λ r. x ∷ r) (entered-none s c (k + 1) es u))
-      (cases-bool (isOf o j x))
+      let u = sym (cond-false (is_of o j x) (Some k) (place o j (k + 1) es) t) ∙ e in
+      cond-false (is_of o j x) (line o j s c ∷ es) (x ∷ entered o j s c es) t ∙ ap (λ r. x ∷ r) (entered_none s c (k + 1) es u))
+      (cases_Bool (is_of o j x))
 
   pub record Placed (f : ℕ → Listed) (i n k : ℕ) : Type 0 where
     pub from : i ≤ k
     pub below : k < i + n
-    pub object : f k .object ≡ o
-    pub holder : f k .holder ≡ j
+    pub object : (f k).object ≡ o
+    pub holder : (f k).holder ≡ j
 
   pub placed : (f : ℕ → Listed) (i n k : ℕ) → place o j i (rows f i n) ≡ Some k → Placed f i n k
   unfolding place rows
-  placed f i zero k e = let z : _≡_ {A = ℕ} 0 1 = cc in absurd (omega arith)
+  placed f i zero k e = let z : ◌≡◌ {A = ℕ} 0 1 = cc in absurd (omega arith)
   placed f i (suc n) k e =
-      ⊎-elim
+      ⊎_elim
       (λ t.
-      let s : Some i ≡ Some k = sym (cond-true (isOf o j (f i)) (Some i) (place o j (i + 1) (rows f (i + 1) n)) t) ∙ e in
-      let s′ : i ≡ k = cc in
-      let w = and-parts (eqb (f i .object) o) (eqb (f i .holder) j) t in
-      let a : f i .object ≡ o = eqb-true (f i .object) o (w .0) in
-      let b : f i .holder ≡ j = eqb-true (f i .holder) j (w .1) in
-      record { from = omega arith; below = omega arith; object = rw s′ at a; holder = rw s′ at b })
+      let s : Some i ≡ Some k = sym (cond-true (is_of o j (f i)) (Some i) (place o j (i + 1) (rows f (i + 1) n)) t) ∙ e in
+      let s' : i ≡ k = cc in
+      let w = and_parts (eqb (f i).object o) (eqb (f i).holder j) t in
+      let a : (f i).object ≡ o = eqb-true (f i).object o w.0 in
+      let b : (f i).holder ≡ j = eqb-true (f i).holder j w.1 in
+      record { from = omega arith; below = omega arith; object = rw s' at a; holder = rw s' at b })
       (λ t.
-      let s = sym (cond-false (isOf o j (f i)) (Some i) (place o j (i + 1) (rows f (i + 1) n)) t) ∙ e in
+      let s = sym (cond-false (is_of o j (f i)) (Some i) (place o j (i + 1) (rows f (i + 1) n)) t) ∙ e in
       let w = placed f (i + 1) n k s in
-      record { from = omega arith; below = omega arith; object = w .object; holder = w .holder })
-      (cases-bool (isOf o j (f i)))
+      record { from = omega arith; below = omega arith; object = w.object; holder = w.holder })
+      (cases_Bool (is_of o j (f i)))
 
   -- nothing is passed over where nothing is found
-  pub unplaced : (f : ℕ → Listed) (i n k : ℕ) → place o j i (rows f i n) ≡ None → i ≤ k → k < i + n → f k .object ≡ o → f k .holder ≡ j → ⊥
+  pub unplaced : (f : ℕ → Listed) (i n k : ℕ) → place o j i (rows f i n) ≡ None → i ≤ k → k < i + n → (f k).object ≡ o → (f k).holder ≡ j → ⊥
   unfolding place rows
   unplaced f i zero k e a b p q = omega arith
   unplaced f i (suc n) k e a b p q =
-      ⊎-elim
+      ⊎_elim
       (λ t.
-      let s : Some i ≡ None = sym (cond-true (isOf o j (f i)) (Some i) (place o j (i + 1) (rows f (i + 1) n)) t) ∙ e in
-      let z : _≡_ {A = ℕ} 0 1 = cc in omega arith)
+      let s : Some i ≡ None = sym (cond-true (is_of o j (f i)) (Some i) (place o j (i + 1) (rows f (i + 1) n)) t) ∙ e in
+      let z : ◌≡◌ {A = ℕ} 0 1 = cc in omega arith)
       (λ t.
-      let s = sym (cond-false (isOf o j (f i)) (Some i) (place o j (i + 1) (rows f (i + 1) n)) t) ∙ e in
-      ⊎-elim
+      let s = sym (cond-false (is_of o j (f i)) (Some i) (place o j (i + 1) (rows f (i + 1) n)) t) ∙ e in
+      ⊎_elim
       (λ m.
-      let y : isOf o j (f i) ≡ true = rw (eq-eqb (f i .object) o (ap (λ x. f x .object) m ∙ p), eq-eqb (f i .holder) j (ap (λ x. f x .holder) m ∙ q)) in
+      let y : is_of o j (f i) ≡ true = rw (eq-eqb (f i).object o (ap (λ x. (f x).object) m ∙ p), eq-eqb (f i).holder j (ap (λ x. (f x).holder) m ∙ q)) in
       let z : true ≡ false = sym y ∙ t in
-      let z′ : _≡_ {A = ℕ} 0 1 = cc in omega arith)
+      let z' : ◌≡◌ {A = ℕ} 0 1 = cc in omega arith)
       (λ m. unplaced f (i + 1) n k s (omega arith) (omega arith) p q)
-      (cases-eq i k))
-      (cases-bool (isOf o j (f i)))
+      (cases_eq i k))
+      (cases_Bool (is_of o j (f i)))
 
-  pub entered-found : (s c : ℕ) (f g : ℕ → Listed) (i n k : ℕ) → place o j i (rows f i n) ≡ Some k → g k ≡ line o j s c → ((x : ℕ) → x ≢ k → f x ≡ g x) → rows g i n ≡ entered o j s c (rows f i n)
+  pub entered_found : (s c : ℕ) (f g : ℕ → Listed) (i n k : ℕ) → place o j i (rows f i n) ≡ Some k → g k ≡ line o j s c → ((x : ℕ) → x ≢ k → f x ≡ g x) → rows g i n ≡ entered o j s c (rows f i n)
   unfolding place rows entered
-  entered-found s c f g i zero k e at other = let z : _≡_ {A = ℕ} 0 1 = cc in absurd (omega arith)
-  entered-found s c f g i (suc n) k e at other =
-      ⊎-elim
+  entered_found s c f g i zero k e at other = let z : ◌≡◌ {A = ℕ} 0 1 = cc in absurd (omega arith)
+  entered_found s c f g i (suc n) k e at other =
+      ⊎_elim
       (λ t.
-      let u : Some i ≡ Some k = sym (cond-true (isOf o j (f i)) (Some i) (place o j (i + 1) (rows f (i + 1) n)) t) ∙ e in
-      let u′ : i ≡ k = cc in
-      let b : rows f (i + 1) n ≡ rows g (i + 1) n = rows-same f g (i + 1) n (λ x p q. other x (λ y. omega arith)) in
-      let a : g i ≡ line o j s c = ap g u′ ∙ at in
-      let r = cond-true (isOf o j (f i)) (line o j s c ∷ rows f (i + 1) n) (f i ∷ entered o j s c (rows f (i + 1) n)) t in
+      let u : Some i ≡ Some k = sym (cond-true (is_of o j (f i)) (Some i) (place o j (i + 1) (rows f (i + 1) n)) t) ∙ e in
+      let u' : i ≡ k = cc in
+      let b : rows f (i + 1) n ≡ rows g (i + 1) n = rows_same f g (i + 1) n (λ x p q. other x (λ y. omega arith)) in
+      let a : g i ≡ line o j s c = ap g u' ∙ at in
+      let r = cond-true (is_of o j (f i)) (line o j s c ∷ rows f (i + 1) n) (f i ∷ entered o j s c (rows f (i + 1) n)) t in
       cc)
       (λ t.
-      let u = sym (cond-false (isOf o j (f i)) (Some i) (place o j (i + 1) (rows f (i + 1) n)) t) ∙ e in
+      let u = sym (cond-false (is_of o j (f i)) (Some i) (place o j (i + 1) (rows f (i + 1) n)) t) ∙ e in
       let w = placed f (i + 1) n k u in
-      let b : rows g (i + 1) n ≡ entered o j s c (rows f (i + 1) n) = entered-found s c f g (i + 1) n k u at other in
-      let a : f i ≡ g i = other i (λ y. omega (arith, w .from)) in
-      let r = cond-false (isOf o j (f i)) (line o j s c ∷ rows f (i + 1) n) (f i ∷ entered o j s c (rows f (i + 1) n)) t in
+      let b : rows g (i + 1) n ≡ entered o j s c (rows f (i + 1) n) = entered_found s c f g (i + 1) n k u at other in
+      let a : f i ≡ g i = other i (λ y. omega (arith, w.from)) in
+      let r = cond-false (is_of o j (f i)) (line o j s c ∷ rows f (i + 1) n) (f i ∷ entered o j s c (rows f (i + 1) n)) t in
       cc)
-      (cases-bool (isOf o j (f i)))
+      (cases_Bool (is_of o j (f i)))
 
   -- a search that has come to i: found, one on, at the end
-  pub search-here : (f : ℕ → Listed) (i n : ℕ) → i < n → isOf o j (f i) ≡ true → place o j i (rows f i (n - i)) ≡ Some i
-  search-here f i n h p = ap (place o j i) (rows-more f i n h) ∙ place-yes i (f i) (rows f (i + 1) (n - (i + 1))) p
+  pub search_here : (f : ℕ → Listed) (i n : ℕ) → i < n → is_of o j (f i) ≡ true → place o j i (rows f i (n - i)) ≡ Some i
+  search_here f i n h p = ap (place o j i) (rows_more f i n h) ∙ place_yes i (f i) (rows f (i + 1) (n - (i + 1))) p
 
-  pub search-more : (f : ℕ → Listed) (i n : ℕ) → i < n → isOf o j (f i) ≡ false → place o j i (rows f i (n - i)) ≡ place o j (i + 1) (rows f (i + 1) (n - (i + 1)))
-  search-more f i n h p = ap (place o j i) (rows-more f i n h) ∙ place-no i (f i) (rows f (i + 1) (n - (i + 1))) p
+  pub search_more : (f : ℕ → Listed) (i n : ℕ) → i < n → is_of o j (f i) ≡ false → place o j i (rows f i (n - i)) ≡ place o j (i + 1) (rows f (i + 1) (n - (i + 1)))
+  search_more f i n h p = ap (place o j i) (rows_more f i n h) ∙ place_no i (f i) (rows f (i + 1) (n - (i + 1))) p
 
-  pub search-none : (f : ℕ → Listed) (i n : ℕ) → n ≤ i → place o j i (rows f i (n - i)) ≡ None
+  pub search_none : (f : ℕ → Listed) (i n : ℕ) → n ≤ i → place o j i (rows f i (n - i)) ≡ None
   unfolding place
-  search-none f i n h = ap (place o j i) (rows-none f i n h)
+  search_none f i n h = ap (place o j i) (rows_none f i n h)
 
 -- a found line in its columns
 module _ (os hs ss cs : List ℕ) (n : ℕ) (ls : n ≤ length ss) (lc : n ≤ length cs) (o j s c : ℕ) where
-  pub model-found : (k : ℕ) → k < n → place o j 0 (model os hs ss cs n) ≡ Some k → model os hs (set ss k s) (set cs k c) n ≡ entered o j s c (model os hs ss cs n)
-  model-found k h e =
+  pub model_found : (k : ℕ) → k < n → place o j 0 (model os hs ss cs n) ≡ Some k → model os hs (set ss k s) (set cs k c) n ≡ entered o j s c (model os hs ss cs n)
+  model_found k h e =
       let w = placed o j (row os hs ss cs) 0 n k e in
-      entered-found o j s c (row os hs ss cs) (row os hs (set ss k s) (set cs k c)) 0 n k e
-      (line-same (w .object) (w .holder) (getD-set-same ss k s 0 (omega arith)) (getD-set-same cs k c 0 (omega arith)))
-      (λ x ne. line-same refl refl (sym (getD-set-other ss k x s 0 ne)) (sym (getD-set-other cs k x c 0 ne)))
+      entered_found o j s c (row os hs ss cs) (row os hs (set ss k s) (set cs k c)) 0 n k e
+      (line_same w.object w.holder (get_or-set_same ss k s 0 (omega arith)) (get_or-set_same cs k c 0 (omega arith)))
+      (λ x ne. line_same refl refl (sym (get_or-set_other ss k x s 0 ne)) (sym (get_or-set_other cs k x c 0 ne)))

@@ -1,38 +1,30 @@
 -- The list that lent columns hold.
-use mathlib.Core.Path.{_≡_}
-use mathlib.Core.Bool.{Bool, cond}
-use mathlib.Core.List.{List, [], _∷_}
-use Prim.Native.Nat.{ℕ, zero, suc, _+_, _<_}
-use lib.ListN.{length, getD, set}
-use Rattle·std.specs.declared.option.Option.{Option}
-use Rattle·std.specs.declared.option.Option.the-variants.{Some, None}
-use Rattle·std.specs.declared.result.Result.{Result}
-use Rattle·std.specs.declared.result.Result.the-variants.{Ok, Err}
-use Rattle·wire.specs.declared.refusal.Refusal.{Refusal}
-use Rattle·wire.specs.declared.refusal.Refusal.the-variants.{Malformed, NoRoom}
-use Rattle·wire.specs.Names.{house, name}
-use Rattle·lines·specs.Listed.{Listed, line, belongs, fits}
-use Rattle·lines·specs.Columns.{row, model, Alone, Own, Far}
-use Rattle·lines·specs.declared.line.Line.{Line}
-use Rattle·lines·specs.declared.table.Lines.{Lines}
+use Rattle.std.specs.Prelude.{◌≡◌, ℕ, zero, suc, ◌+◌, ◌<◌, Bool, cond, List, [], ◌∷◌, length, Some, None, Ok, Err, Option, Result, slice_set}
+use Rattle.wire.specs.declared.refusal.Refusal.{Refusal}
+use Rattle.wire.specs.declared.refusal.Refusal.TheVariants.{Malformed, NoRoom}
+use Rattle.wire.specs.Names.{house, name}
+use Rattle.lines.specs.Listed.{Listed, line, belongs, fits}
+use Rattle.lines.specs.Columns.{row, model, Alone, Own, Far}
+use Rattle.lines.specs.declared.line.Line.{Line}
+use Rattle.lines.specs.declared.table.Lines.{Lines}
 
-abbrev pub rowOf : Lines → ℕ → Listed
-rowOf t = row (t .objects .now) (t .holders .now) (t .stamps .now) (t .censuses .now)
+abbrev pub row_of : Lines → ℕ → Listed
+row_of t = row t.objects.now t.holders.now t.stamps.now t.censuses.now
 
 abbrev pub lines : Lines → List Listed
-lines t = model (t .objects .now) (t .holders .now) (t .stamps .now) (t .censuses .now) (t .len)
+lines t = model t.objects.now t.holders.now t.stamps.now t.censuses.now t.len
 
 -- a line of the list as a program reads it, and back
 abbrev pub shown : Listed → Line
-shown e = record { object = name (e .object); holder = house (e .holder); stamp = record { 0 = e .stamp }; census = record { 0 = e .census } }
+shown e = record { object = name e.object; holder = house e.holder; stamp = record { 0 = e.stamp }; census = record { 0 = e.census } }
 
 abbrev pub listing : Line → Listed
-listing l = line (l .object .0) (l .holder .0) (l .stamp .0) (l .census .0)
+listing l = line l.object.0 l.holder.0 l.stamp.0 l.census.0
 
-unfoldable pub lineAt : ℕ → List Listed → Option Line
-lineAt i [] = None
-lineAt zero (e ∷ es) = Some (shown e)
-lineAt (suc i) (e ∷ es) = lineAt i es
+unfoldable pub line_at : ℕ → List Listed → Option Line
+line_at i [] = None
+line_at zero (e ∷ es) = Some (shown e)
+line_at (suc i) (e ∷ es) = line_at i es
 
 -- what `enter` answers
 abbrev pub entering : ℕ → ℕ → ℕ → ℕ → ℕ → List Listed → Result (Unit {0}) Refusal
@@ -40,45 +32,45 @@ entering here houses room o j es = cond (belongs here houses o j) (cond (fits o 
 
 -- u lies in the memory that t lies in, and is the list of the same house
 pub record Lent (t u : Lines) : Type 0 where
-  pub objects : u .objects .name ≡ t .objects .name
-  pub holders : u .holders .name ≡ t .holders .name
-  pub stamps : u .stamps .name ≡ t .stamps .name
-  pub censuses : u .censuses .name ≡ t .censuses .name
-  pub objects-long : length (u .objects .now) ≡ length (t .objects .now)
-  pub holders-long : length (u .holders .now) ≡ length (t .holders .now)
-  pub stamps-long : length (u .stamps .now) ≡ length (t .stamps .now)
-  pub censuses-long : length (u .censuses .now) ≡ length (t .censuses .now)
-  pub room : u .room ≡ t .room
-  pub home : u .home ≡ t .home
-  pub houses : u .houses ≡ t .houses
+  pub objects : u.objects.name ≡ t.objects.name
+  pub holders : u.holders.name ≡ t.holders.name
+  pub stamps : u.stamps.name ≡ t.stamps.name
+  pub censuses : u.censuses.name ≡ t.censuses.name
+  pub objects_long : length u.objects.now ≡ length t.objects.now
+  pub holders_long : length u.holders.now ≡ length t.holders.now
+  pub stamps_long : length u.stamps.now ≡ length t.stamps.now
+  pub censuses_long : length u.censuses.now ≡ length t.censuses.now
+  pub room : u.room ≡ t.room
+  pub home : u.home ≡ t.home
+  pub houses : u.houses ≡ t.houses
 
 -- u is t with one more line at the end
 pub record Pushed (t : Lines) (e : Listed) (u : Lines) : Type 0 where
-  pub objects : u .objects .now ≡ set (t .objects .now) (t .len) (e .object)
-  pub holders : u .holders .now ≡ set (t .holders .now) (t .len) (e .holder)
-  pub stamps : u .stamps .now ≡ set (t .stamps .now) (t .len) (e .stamp)
-  pub censuses : u .censuses .now ≡ set (t .censuses .now) (t .len) (e .census)
-  pub len : u .len ≡ t .len + 1
+  pub objects : u.objects.now ≡ slice_set t.objects.now t.len e.object
+  pub holders : u.holders.now ≡ slice_set t.holders.now t.len e.holder
+  pub stamps : u.stamps.now ≡ slice_set t.stamps.now t.len e.stamp
+  pub censuses : u.censuses.now ≡ slice_set t.censuses.now t.len e.census
+  pub len : u.len ≡ t.len + 1
 
 -- u is t, where the line at place i has another stamp and another census
 pub record Changed (t : Lines) (i s c : ℕ) (u : Lines) : Type 0 where
-  pub objects : u .objects .now ≡ t .objects .now
-  pub holders : u .holders .now ≡ t .holders .now
-  pub stamps : u .stamps .now ≡ set (t .stamps .now) i s
-  pub censuses : u .censuses .now ≡ set (t .censuses .now) i c
-  pub len : u .len ≡ t .len
+  pub objects : u.objects.now ≡ t.objects.now
+  pub holders : u.holders.now ≡ t.holders.now
+  pub stamps : u.stamps.now ≡ slice_set t.stamps.now i s
+  pub censuses : u.censuses.now ≡ slice_set t.censuses.now i c
+  pub len : u.len ≡ t.len
 
 -- u is t, where the line at place i has another number
 pub record Numbered (t : Lines) (i c : ℕ) (u : Lines) : Type 0 where
-  pub objects : u .objects .now ≡ t .objects .now
-  pub holders : u .holders .now ≡ t .holders .now
-  pub stamps : u .stamps .now ≡ t .stamps .now
-  pub censuses : u .censuses .now ≡ set (t .censuses .now) i c
-  pub len : u .len ≡ t .len
+  pub objects : u.objects.now ≡ t.objects.now
+  pub holders : u.holders.now ≡ t.holders.now
+  pub stamps : u.stamps.now ≡ t.stamps.now
+  pub censuses : u.censuses.now ≡ slice_set t.censuses.now i c
+  pub len : u.len ≡ t.len
 
 -- t may have this line at its end: there is room, and with it the list is one of this house
 pub record Ready (t : Lines) (e : Listed) : Type 0 where
-  pub room : t .len < t .room
-  pub alone : Alone (set (t .objects .now) (t .len) (e .object)) (set (t .holders .now) (t .len) (e .holder)) (t .len + 1)
-  pub own : Own (t .home .0) (set (t .objects .now) (t .len) (e .object)) (t .len + 1)
-  pub far : Far (t .home .0) (t .houses) (set (t .holders .now) (t .len) (e .holder)) (t .len + 1)
+  pub room : t.len < t.room
+  pub alone : Alone (slice_set t.objects.now t.len e.object) (slice_set t.holders.now t.len e.holder) (t.len + 1)
+  pub own : Own t.home.0 (slice_set t.objects.now t.len e.object) (t.len + 1)
+  pub far : Far t.home.0 t.houses (slice_set t.holders.now t.len e.holder) (t.len + 1)

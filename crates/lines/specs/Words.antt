@@ -1,8 +1,6 @@
 -- The objects of a word, in rising order.
-use mathlib.Core.List.{List}
-use Prim.Native.Nat.{ℕ, _<_}
-use lib.ListN.{length, getD}
+use Rattle.std.specs.Prelude.{ℕ, ◌<◌, List, length, slice_index}
 
 -- each is above all before it
 abbrev pub Ascending : List ℕ → Type 0
-Ascending xs = (i k : ℕ) → i < k → k < length xs → getD xs i 0 < getD xs k 0
+Ascending xs = (i k : ℕ) → i < k → k < length xs → slice_index xs i < slice_index xs k

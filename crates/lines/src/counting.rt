@@ -1,27 +1,21 @@
-ghost use mathlib.Core.Path.{_≡_};
-ghost use mathlib.Core.Bool.{_&&_, not};
-ghost use mathlib.Core.List.{map};
-ghost use Prim.Native.Nat.{_<_, _≤_};
-ghost use lib.Dec.{eqb, ltb};
-ghost use lib.ListN.{getD, take};
-ghost use Rattle·wire.specs.Names.{name};
-ghost use Rattle·lines·specs.Laws.{Raises, LeavesUnheard};
-ghost use Rattle·lines·specs.Listed.{listed, listedIn, joined, joins, marked, swept, objectsListed, objectsIn};
-ghost use Rattle·lines·specs.Lists.{lines, listing, Lent, Numbered};
-ghost use Rattle·lines·specs.Stamping.{heardFrom};
+ghost use Rattle.std.specs.Prelude.{◌≡◌, ◌<◌, ◌≤◌, not, ◌&&◌, map, take, ◌==◌, nat_lt, slice_index};
+ghost use Rattle.wire.specs.Names.{name};
+ghost use Rattle.lines.specs.Laws.{Raises, LeavesUnheard};
+ghost use Rattle.lines.specs.Listed.{listed, listed_in, joined, joins, marked, swept, objects_listed, objects_in};
+ghost use Rattle.lines.specs.Lists.{lines, listing, Lent, Numbered};
+ghost use Rattle.lines.specs.Stamping.{heard_from};
+
 use crate::line::Line;
 use crate::stamps::Stamps;
 use crate::table::Lines;
-use wire::Census;
-use wire::House;
-use wire::Name;
+use wire::{Census, House, Name};
 
 impl Lines<'_> {
     // A census begins: every line with a stamp above what is heard of its holder gets its number, since that reference may still be on its way.
     pub fn join(&mut self, census: Census, stamps: &Stamps)
-        ensures after { λ _. ⌜ lines (now (self .exit)) ≡ joined (census .0) (heardFrom (now (stamps .entry))) (lines (now (self .entry))) ⌝ }
-        ensures raises { λ _. ⌜ Raises (census .0) (lines (now (self .entry))) (lines (now (self .exit))) ⌝ }
-        ensures lent { λ _. ⌜ Lent (now (self .entry)) (now (self .exit)) ⌝ }
+        ensures after { lines self.new ≡ joined census.0 (heard_from stamps.now) (lines self.old) }
+        ensures raises { Raises census.0 (lines self.old) (lines self.new) }
+        ensures lent { Lent self.old self.new }
     {
         for i in 0..self.len {
             let line = self.row(i);
@@ -33,9 +27,9 @@ impl Lines<'_> {
 
     // The line of `object` and `holder`, if there is one, gets the number; whether there was one that had another.
     pub fn mark(&mut self, object: Name, holder: House, census: Census) -> bool
-        ensures value { λ r. ⌜ r ≡ (listed (object .0) (holder .0) (lines (now (self .entry))) && not (listedIn (census .0) (object .0) (holder .0) (lines (now (self .entry))))) ⌝ }
-        ensures after { λ _. ⌜ lines (now (self .exit)) ≡ marked (census .0) (object .0) (holder .0) (lines (now (self .entry))) ⌝ }
-        ensures lent { λ _. ⌜ Lent (now (self .entry)) (now (self .exit)) ⌝ }
+        ensures value { result ≡ (listed object.0 holder.0 (lines self.old) && not (listed_in census.0 object.0 holder.0 (lines self.old))) }
+        ensures after { lines self.new ≡ marked census.0 object.0 holder.0 (lines self.old) }
+        ensures lent { Lent self.old self.new }
     {
         let Some(at) = self.find(object, holder) else {
             return false;
@@ -45,10 +39,10 @@ impl Lines<'_> {
 
     // The line at place `i` gets the number; whether it had another.
     fn renumber(&mut self, i: usize, census: Census) -> bool
-        requires { ⌜ i < now self .len ⌝ }
-        ensures value { λ r. ⌜ r ≡ not (eqb (getD (now (self .entry) .censuses .now) i 0) (census .0)) ⌝ }
-        ensures numbered { λ _. ⌜ Numbered (now (self .entry)) i (census .0) (now (self .exit)) ⌝ }
-        ensures lent { λ _. ⌜ Lent (now (self .entry)) (now (self .exit)) ⌝ }
+        requires { i < self.old.len }
+        ensures value { result ≡ not (slice_index self.old.censuses.now i == census.0) }
+        ensures numbered { Numbered self.old i census.0 self.new }
+        ensures lent { Lent self.old self.new }
     {
         let other = self.censuses[i] != census.0;
         self.censuses[i] = census.0;
@@ -57,7 +51,7 @@ impl Lines<'_> {
 
     // Whether `holder` holds `object` by a line with this number.
     pub fn is_held(&self, object: Name, holder: House, census: Census) -> bool
-        ensures { λ r. ⌜ r ≡ listedIn (census .0) (object .0) (holder .0) (lines (now (self .entry))) ⌝ }
+        ensures { result ≡ listed_in census.0 object.0 holder.0 (lines self.now) }
     {
         let Some(at) = self.find(object, holder) else {
             return false;
@@ -67,8 +61,8 @@ impl Lines<'_> {
 
     // The objects of all lines, in their order, are written to the front of `into`; how many there are.
     pub fn objects(&self, into: &mut [Name; 2048]) -> usize
-        ensures within { λ r. ⌜ r ≤ 2048 ⌝ }
-        ensures after { λ r. ⌜ take r (now (into .exit)) ≡ map name (objectsListed (lines (now (self .entry)))) ⌝ }
+        ensures within { result ≤ 2048 }
+        ensures after { take result into.new ≡ map name (objects_listed (lines self.now)) }
     {
         for i in 0..self.len {
             into[i] = Name(self.objects[i]);
@@ -78,8 +72,8 @@ impl Lines<'_> {
 
     // The same of the lines with this number.
     pub fn objects_in(&self, census: Census, into: &mut [Name; 2048]) -> usize
-        ensures within { λ r. ⌜ r ≤ 2048 ⌝ }
-        ensures after { λ r. ⌜ take r (now (into .exit)) ≡ map name (objectsIn (census .0) (lines (now (self .entry)))) ⌝ }
+        ensures within { result ≤ 2048 }
+        ensures after { take result into.new ≡ map name (objects_in census.0 (lines self.now)) }
     {
         let mut count = 0;
         for i in 0..self.len {
@@ -93,8 +87,8 @@ impl Lines<'_> {
 
     // The same of the lines that a join of this census now would give the number to, or that have it.
     pub fn objects_joining(&self, census: Census, stamps: &Stamps, into: &mut [Name; 2048]) -> usize
-        ensures within { λ r. ⌜ r ≤ 2048 ⌝ }
-        ensures after { λ r. ⌜ take r (now (into .exit)) ≡ map name (objectsIn (census .0) (joined (census .0) (heardFrom (now (stamps .entry))) (lines (now (self .entry))))) ⌝ }
+        ensures within { result ≤ 2048 }
+        ensures after { take result into.new ≡ map name (objects_in census.0 (joined census.0 (heard_from stamps.now) (lines self.now))) }
     {
         let mut count = 0;
         for i in 0..self.len {
@@ -109,9 +103,9 @@ impl Lines<'_> {
 
     // Lines with another number go, the others close up in order.
     pub fn sweep(&mut self, census: Census)
-        ensures after { λ _. ⌜ lines (now (self .exit)) ≡ swept (census .0) (lines (now (self .entry))) ⌝ }
-        ensures leaves { λ _. ⌜ LeavesUnheard (census .0) (lines (now (self .entry))) (lines (now (self .exit))) ⌝ }
-        ensures lent { λ _. ⌜ Lent (now (self .entry)) (now (self .exit)) ⌝ }
+        ensures after { lines self.new ≡ swept census.0 (lines self.old) }
+        ensures leaves { LeavesUnheard census.0 (lines self.old) (lines self.new) }
+        ensures lent { Lent self.old self.new }
     {
         let len = self.len;
         self.len = 0;
@@ -126,21 +120,21 @@ impl Lines<'_> {
 
 // Whether the line has another number than this.
 fn is_other(line: Line, census: Census) -> bool
-    ensures { λ r. ⌜ r ≡ not (eqb (line .census .0) (census .0)) ⌝ }
+    ensures { result ≡ not (line.census.0 == census.0) }
 {
     line.census.0 != census.0
 }
 
 // Whether the holder is not known to have seen the stamp of this line.
 fn is_unheard(line: Line, stamps: &Stamps) -> bool
-    ensures { λ r. ⌜ r ≡ ltb (heardFrom (now (stamps .entry)) (line .holder .0)) (line .stamp .0) ⌝ }
+    ensures { result ≡ nat_lt (heard_from stamps.now line.holder.0) line.stamp.0 }
 {
     line.stamp.0 > stamps.heard_from(line.holder).0
 }
 
 // Whether the line has the number after a join.
 fn is_joining(line: Line, census: Census, stamps: &Stamps) -> bool
-    ensures { λ r. ⌜ r ≡ joins (census .0) (heardFrom (now (stamps .entry))) (listing line) ⌝ }
+    ensures { result ≡ joins census.0 (heard_from stamps.now) (listing line) }
 {
     is_unheard(line, stamps) || !is_other(line, census)
 }

@@ -1,21 +1,12 @@
-ghost use mathlib.Core.Path.{_≡_};
-ghost use mathlib.Core.Bool.{true, cond};
-ghost use mathlib.Core.List.{[]};
-ghost use Prim.Native.Nat.{min, _<_};
-ghost use lib.ListN.{length, getD};
-ghost use Rattle·std.specs.Options.{Cases as BySome};
-ghost use Rattle·std.specs.Results.{isOk};
-ghost use Rattle·lines·specs.Columns.{roomIn};
-ghost use Rattle·lines·specs.Laws.{Kept, Outlives};
-ghost use Rattle·lines·specs.Listed.{isOf, place, entered, fits, belongs};
-ghost use Rattle·lines·specs.Lists.{lines, rowOf, shown, listing, lineAt, entering, Lent, Pushed, Changed, Ready};
+ghost use Rattle.std.specs.Prelude.{◌≡◌, ◌<◌, min, true, [], length, IfSome, is_ok, if◌then◌else◌, slice_index};
+ghost use Rattle.lines.specs.Columns.{room_in};
+ghost use Rattle.lines.specs.Laws.{Kept, Outlives};
+ghost use Rattle.lines.specs.Listed.{is_of, place, entered, fits, belongs};
+ghost use Rattle.lines.specs.Lists.{lines, row_of, shown, listing, line_at, entering, Lent, Pushed, Changed, Ready};
+
 use crate::line::Line;
 use crate::table::Lines;
-use wire::Census;
-use wire::House;
-use wire::Name;
-use wire::Refusal;
-use wire::Stamp;
+use wire::{Census, House, Name, Refusal, Stamp};
 
 impl<'a> Lines<'a> {
     // The empty list of house `home` among `houses` houses, sixteen at most, with as many places as each column has, 2,048 at most.
@@ -27,11 +18,11 @@ impl<'a> Lines<'a> {
         home: House,
         houses: u8,
     ) -> Lines<'a>
-        ensures empty { λ r. ⌜ lines r ≡ [] ⌝ }
-        ensures len { λ r. ⌜ r .len ≡ 0 ⌝ }
-        ensures room { λ r. ⌜ r .room ≡ roomIn (now (objects .entry)) (now (holders .entry)) (now (stamps .entry)) (now (censuses .entry)) ⌝ }
-        ensures home { λ r. ⌜ r .home ≡ home ⌝ }
-        ensures houses { λ r. ⌜ r .houses ≡ min houses 16 ⌝ }
+        ensures empty { lines result ≡ [] }
+        ensures len { result.len ≡ 0 }
+        ensures room { result.room ≡ room_in objects.old holders.old stamps.old censuses.old }
+        ensures home { result.home ≡ home }
+        ensures houses { result.houses ≡ min houses 16 }
     {
         let room = objects
             .len()
@@ -56,16 +47,16 @@ impl<'a> Lines<'a> {
 impl Lines<'_> {
     // How many lines there are.
     pub fn len(&self) -> usize
-        ensures value { λ r. ⌜ r ≡ length (lines (now (self .entry))) ⌝ }
-        ensures kept { λ _. ⌜ Kept (now (self .entry) .home .0) (now (self .entry) .houses) (lines (now (self .entry))) ⌝ }
+        ensures value { result ≡ length (lines self.now) }
+        ensures kept { Kept self.now.home.0 self.now.houses (lines self.now) }
     {
         self.len
     }
 
     // The place of the line of `object` and `holder`.
     pub fn find(&self, object: Name, holder: House) -> Option<usize>
-        ensures place { λ r. ⌜ r ≡ place (object .0) (holder .0) 0 (lines (now (self .entry))) ⌝ }
-        ensures within { λ r. ⌜ BySome r (Unit {0}) (λ k. k < now (self .entry) .len) ⌝ }
+        ensures place { result ≡ place object.0 holder.0 0 (lines self.now) }
+        ensures within { IfSome result (λ k. k < self.now.len) }
     {
         for i in 0..self.len {
             if self.is_at(i, object, holder) {
@@ -77,7 +68,7 @@ impl Lines<'_> {
 
     // The line at place `i`.
     pub fn line(&self, i: usize) -> Option<Line>
-        ensures { λ r. ⌜ r ≡ lineAt i (lines (now (self .entry))) ⌝ }
+        ensures { result ≡ line_at i (lines self.now) }
     {
         if i >= self.len {
             return None;
@@ -94,10 +85,10 @@ impl Lines<'_> {
         stamp: Stamp,
         census: Census,
     ) -> Result<(), Refusal>
-        ensures value { λ r. ⌜ r ≡ entering (now (self .entry) .home .0) (now (self .entry) .houses) (now (self .entry) .room) (object .0) (holder .0) (lines (now (self .entry))) ⌝ }
-        ensures after { λ r. ⌜ lines (now (self .exit)) ≡ cond (isOk r) (entered (object .0) (holder .0) (stamp .0) (census .0) (lines (now (self .entry)))) (lines (now (self .entry))) ⌝ }
-        ensures outlives { λ r. ⌜ (isOk r ≡ true → Outlives (object .0) (holder .0) (stamp .0) (census .0) (lines (now (self .exit)))) ⌝ }
-        ensures lent { λ _. ⌜ Lent (now (self .entry)) (now (self .exit)) ⌝ }
+        ensures value { result ≡ entering self.old.home.0 self.old.houses self.old.room object.0 holder.0 (lines self.old) }
+        ensures after { lines self.new ≡ (if is_ok result then entered object.0 holder.0 stamp.0 census.0 (lines self.old) else lines self.old) }
+        ensures outlives { is_ok result ≡ true → Outlives object.0 holder.0 stamp.0 census.0 (lines self.new) }
+        ensures lent { Lent self.old self.new }
     {
         if !self.takes(object, holder) {
             return Err(Refusal::Malformed);
@@ -120,31 +111,31 @@ impl Lines<'_> {
 
     // Whether a line of `object` and `holder` is there already or has room at the end.
     pub fn has_room(&self, object: Name, holder: House) -> bool
-        ensures { λ r. ⌜ r ≡ fits (object .0) (holder .0) (lines (now (self .entry))) (now (self .entry) .room) ⌝ }
+        ensures { result ≡ fits object.0 holder.0 (lines self.now) self.now.room }
     {
         self.len < self.room || self.find(object, holder).is_some()
     }
 
     // Whether the object lives here and the holder is another house.
     fn takes(&self, object: Name, holder: House) -> bool
-        ensures { λ r. ⌜ r ≡ belongs (now (self .entry) .home .0) (now (self .entry) .houses) (object .0) (holder .0) ⌝ }
+        ensures { result ≡ belongs self.now.home.0 self.now.houses object.0 holder.0 }
     {
         object.home().0 == self.home.0 && holder.0 != self.home.0 && holder.0 < self.houses
     }
 
     // Whether the line at place `i` is of `object` and `holder`.
     fn is_at(&self, i: usize, object: Name, holder: House) -> bool
-        requires { ⌜ i < now self .len ⌝ }
-        ensures { λ r. ⌜ r ≡ isOf (object .0) (holder .0) (rowOf (now (self .entry)) i) ⌝ }
+        requires { i < self.now.len }
+        ensures { result ≡ is_of object.0 holder.0 (row_of self.now i) }
     {
         self.objects[i] == object.0 && self.holders[i] == holder.0 as u32
     }
 
     // The line at place `i` gets another stamp and another census.
     pub(crate) fn change(&mut self, i: usize, stamp: Stamp, census: Census)
-        requires { ⌜ i < now self .len ⌝ }
-        ensures changed { λ _. ⌜ Changed (now (self .entry)) i (stamp .0) (census .0) (now (self .exit)) ⌝ }
-        ensures lent { λ _. ⌜ Lent (now (self .entry)) (now (self .exit)) ⌝ }
+        requires { i < self.old.len }
+        ensures changed { Changed self.old i stamp.0 census.0 self.new }
+        ensures lent { Lent self.old self.new }
     {
         self.stamps[i] = stamp.0;
         self.censuses[i] = census.0;
@@ -152,9 +143,9 @@ impl Lines<'_> {
 
     // What stands in place `i` of the columns, taken or not.
     pub(crate) fn row(&self, i: usize) -> Line
-        requires within { ⌜ i < now self .room ⌝ }
-        requires small { ⌜ getD (now self .holders .now) i 0 < 256 ⌝ }
-        ensures { λ r. ⌜ r ≡ shown (rowOf (now (self .entry)) i) ⌝ }
+        requires within { i < self.now.room }
+        requires small { slice_index self.now.holders.now i < 256 }
+        ensures { result ≡ shown (row_of self.now i) }
     {
         Line {
             object: Name(self.objects[i]),
@@ -166,9 +157,9 @@ impl Lines<'_> {
 
     // A new line at the end.
     pub(crate) fn push(&mut self, line: Line)
-        requires { ⌜ Ready (now self) (listing line) ⌝ }
-        ensures pushed { λ _. ⌜ Pushed (now (self .entry)) (listing line) (now (self .exit)) ⌝ }
-        ensures lent { λ _. ⌜ Lent (now (self .entry)) (now (self .exit)) ⌝ }
+        requires { Ready self.old (listing line) }
+        ensures pushed { Pushed self.old (listing line) self.new }
+        ensures lent { Lent self.old self.new }
     {
         let at = self.len;
         self.objects[at] = line.object.0;

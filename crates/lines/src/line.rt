@@ -1,7 +1,4 @@
-use wire::Census;
-use wire::House;
-use wire::Name;
-use wire::Stamp;
+use wire::{Census, House, Name, Stamp};
 
 // Line: this object was handed to this holder, last with this stamp, and was last found in use in this census.
 #[derive(Clone, Copy)]

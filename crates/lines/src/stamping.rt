@@ -1,17 +1,13 @@
-ghost use mathlib.Core.Path.{_≡_};
-ghost use mathlib.Core.Bool.{cond};
-ghost use Prim.Native.Nat.{_+_, max};
-ghost use Rattle·std.specs.Results.{isOk};
-ghost use Rattle·lines·specs.Stamping.{stamp as stamped, unstamped, givenTo, seenFrom, heardFrom, withGiven, withSeen, withHeard, nextFor, seeing, hearing};
+ghost use Rattle.std.specs.Prelude.{◌≡◌, ◌+◌, max, is_ok, if◌then◌else◌};
+ghost use Rattle.lines.specs.Stamping.{stamp as stamped, unstamped, given_to, seen_from, heard_from, with_given, with_seen, with_heard, next_for, seeing, hearing};
+
 use crate::stamps::Stamps;
-use wire::House;
-use wire::Refusal;
-use wire::Stamp;
+use wire::{House, Refusal, Stamp};
 
 impl Stamps {
     // Nothing given, seen or heard yet.
     pub fn new() -> Stamps
-        ensures { λ r. ⌜ r ≡ unstamped ⌝ }
+        ensures { result ≡ unstamped }
     {
         Stamps {
             given: [0; 16],
@@ -22,7 +18,7 @@ impl Stamps {
 
     // The highest stamp that came from a house; 0 where none did.
     pub fn seen_from(&self, house: House) -> Stamp
-        ensures { λ r. ⌜ r ≡ stamped (seenFrom (now (self .entry)) (house .0)) ⌝ }
+        ensures { result ≡ stamped (seen_from self.now house.0) }
     {
         if house.0 >= 16 {
             return Stamp(0);
@@ -32,7 +28,7 @@ impl Stamps {
 
     // The highest stamp that a house is known to have seen; 0 where it said none.
     pub fn heard_from(&self, house: House) -> Stamp
-        ensures { λ r. ⌜ r ≡ stamped (heardFrom (now (self .entry)) (house .0)) ⌝ }
+        ensures { result ≡ stamped (heard_from self.now house.0) }
     {
         if house.0 >= 16 {
             return Stamp(0);
@@ -42,7 +38,7 @@ impl Stamps {
 
     // The stamp that the next reference for a house gets.
     pub fn next_for(&self, house: House) -> Result<Stamp, Refusal>
-        ensures { λ r. ⌜ r ≡ nextFor (house .0) (now (self .entry)) ⌝ }
+        ensures { result ≡ next_for house.0 self.now }
     {
         if house.0 >= 16 {
             return Err(Refusal::Malformed);
@@ -56,8 +52,8 @@ impl Stamps {
 
     // A reference is given to a house, with the next stamp.
     pub fn give(&mut self, house: House) -> Result<Stamp, Refusal>
-        ensures value { λ r. ⌜ r ≡ nextFor (house .0) (now (self .entry)) ⌝ }
-        ensures after { λ r. ⌜ now (self .exit) ≡ cond (isOk r) (withGiven (now (self .entry)) (house .0) (givenTo (now (self .entry)) (house .0) + 1)) (now (self .entry)) ⌝ }
+        ensures value { result ≡ next_for house.0 self.old }
+        ensures after { self.new ≡ (if is_ok result then with_given self.old house.0 (given_to self.old house.0 + 1) else self.old) }
     {
         let stamp = self.next_for(house)?;
         self.given[house.0 as usize] = stamp.0;
@@ -66,8 +62,8 @@ impl Stamps {
 
     // A reference came from a house: its stamp has to be above the highest seen.
     pub fn see(&mut self, house: House, stamp: Stamp) -> Result<(), Refusal>
-        ensures value { λ r. ⌜ r ≡ seeing (house .0) (stamp .0) (now (self .entry)) ⌝ }
-        ensures after { λ r. ⌜ now (self .exit) ≡ cond (isOk r) (withSeen (now (self .entry)) (house .0) (stamp .0)) (now (self .entry)) ⌝ }
+        ensures value { result ≡ seeing house.0 stamp.0 self.old }
+        ensures after { self.new ≡ (if is_ok result then with_seen self.old house.0 stamp.0 else self.old) }
     {
         if house.0 >= 16 {
             return Err(Refusal::Malformed);
@@ -81,8 +77,8 @@ impl Stamps {
 
     // A house says that it has seen this stamp: the greater of the two is kept.
     pub fn hear(&mut self, house: House, stamp: Stamp) -> Result<(), Refusal>
-        ensures value { λ r. ⌜ r ≡ hearing (house .0) ⌝ }
-        ensures after { λ r. ⌜ now (self .exit) ≡ cond (isOk r) (withHeard (now (self .entry)) (house .0) (max (heardFrom (now (self .entry)) (house .0)) (stamp .0))) (now (self .entry)) ⌝ }
+        ensures value { result ≡ hearing house.0 }
+        ensures after { self.new ≡ (if is_ok result then with_heard self.old house.0 (max (heard_from self.old house.0) stamp.0) else self.old) }
     {
         if house.0 >= 16 {
             return Err(Refusal::Malformed);

@@ -1,6 +1,6 @@
-ghost use mathlib.Core.Path.{_≡_};
-ghost use Prim.Native.Nat.{_≤_};
-ghost use Rattle·lines·specs.Columns.{Roomy, Alone, Own, Far};
+ghost use Rattle.std.specs.Prelude.{◌≡◌, ◌≤◌};
+ghost use Rattle.lines.specs.Columns.{Roomy, Alone, Own, Far};
+
 use wire::House;
 
 // The list of house `home` among `houses` houses, in four lent columns: which of its objects other houses hold.
@@ -19,9 +19,9 @@ pub struct Lines<'a> {
     pub houses: u8,
     ghost within: { len ≤ room },
     ghost most: { room ≤ 2048 },
-    ghost roomy: { Roomy room (objects .now) (holders .now) (stamps .now) (censuses .now) },
+    ghost roomy: { Roomy room objects.now holders.now stamps.now censuses.now },
     ghost sixteen: { houses ≤ 16 },
-    ghost alone: { Alone (objects .now) (holders .now) len },
-    ghost own: { Own (home .0) (objects .now) len },
-    ghost far: { Far (home .0) houses (holders .now) len },
+    ghost alone: { Alone objects.now holders.now len },
+    ghost own: { Own home.0 objects.now len },
+    ghost far: { Far home.0 houses holders.now len },
 }

@@ -1,27 +1,23 @@
-ghost use mathlib.Core.Path.{_≡_};
-ghost use mathlib.Core.Bool.{true};
-ghost use Prim.Native.Nat.{_+_, _*_, _≤_};
-ghost use lib.ListN.{length};
-ghost use Rattle·wire.specs.Format.{numbers, rising, u32At};
-ghost use Rattle·lines·specs.Laws.{Again, Survives};
-ghost use Rattle·lines·specs.Listed.{isIn, goes, heardOf};
-ghost use Rattle·lines·specs.Lists.{lines, listing, Lent};
-ghost use Rattle·lines·specs.Words.{Ascending};
+ghost use Rattle.std.specs.Prelude.{◌≡◌, ◌+◌, ◌*◌, ◌≤◌, true, length};
+ghost use Rattle.wire.specs.Format.{numbers, rising, u32_at};
+ghost use Rattle.lines.specs.Laws.{Again, Survives};
+ghost use Rattle.lines.specs.Listed.{is_in, goes, heard_of};
+ghost use Rattle.lines.specs.Lists.{lines, listing, Lent};
+ghost use Rattle.lines.specs.Words.{Ascending};
+
 use crate::line::Line;
 use crate::table::Lines;
-use wire::House;
-use wire::Name;
-use wire::Stamp;
+use wire::{House, Name, Stamp};
 
 impl Lines<'_> {
     // A word of house `from`, which has seen `stamp` and holds the objects of this part, four bytes each, rising as in every word that was read.
     // Its lines with a stamp at most that go, unless the object is among those, and the others close up in order.
     pub fn hear(&mut self, from: House, stamp: Stamp, objects: &[u8])
-        requires { ⌜ rising (now self .home .0) 15 (numbers (now objects)) ≡ true ⌝ }
-        ensures after { λ _. ⌜ lines (now (self .exit)) ≡ heardOf (from .0) (numbers (now (objects .entry))) (stamp .0) (lines (now (self .entry))) ⌝ }
-        ensures again { λ _. ⌜ Again (from .0) (numbers (now (objects .entry))) (stamp .0) (lines (now (self .exit))) ⌝ }
-        ensures survives { λ _. ⌜ Survives (stamp .0) (lines (now (self .entry))) (lines (now (self .exit))) ⌝ }
-        ensures lent { λ _. ⌜ Lent (now (self .entry)) (now (self .exit)) ⌝ }
+        requires { rising self.old.home.0 15 (numbers objects.now) ≡ true }
+        ensures after { lines self.new ≡ heard_of from.0 (numbers objects.now) stamp.0 (lines self.old) }
+        ensures again { Again from.0 (numbers objects.now) stamp.0 (lines self.new) }
+        ensures survives { Survives stamp.0 (lines self.old) (lines self.new) }
+        ensures lent { Lent self.old self.new }
     {
         let len = self.len;
         self.len = 0;
@@ -36,16 +32,16 @@ impl Lines<'_> {
 
 // Whether a word takes this line away.
 fn gone(line: Line, from: House, stamp: Stamp, objects: &[u8]) -> bool
-    requires { ⌜ Ascending (numbers (now objects)) ⌝ }
-    ensures { λ r. ⌜ r ≡ goes (from .0) (numbers (now (objects .entry))) (stamp .0) (listing line) ⌝ }
+    requires { Ascending (numbers objects.now) }
+    ensures { result ≡ goes from.0 (numbers objects.now) stamp.0 (listing line) }
 {
     line.holder.0 == from.0 && line.stamp.0 <= stamp.0 && !holds(objects, line.object)
 }
 
 // Whether the object is among those of a part, which rise: the half that cannot hold it is left out at each turn.
 fn holds(objects: &[u8], object: Name) -> bool
-    requires { ⌜ Ascending (numbers (now objects)) ⌝ }
-    ensures { λ r. ⌜ r ≡ isIn (object .0) (numbers (now (objects .entry))) ⌝ }
+    requires { Ascending (numbers objects.now) }
+    ensures { result ≡ is_in object.0 (numbers objects.now) }
 {
     let mut low = 0;
     let mut high = objects.len() / 4;
@@ -66,8 +62,8 @@ fn holds(objects: &[u8], object: Name) -> bool
 
 // The number at place `i` of a part.
 fn number_at(objects: &[u8], i: usize) -> u32
-    requires { ⌜ 4 * i + 4 ≤ length (now objects) ⌝ }
-    ensures { λ r. ⌜ r ≡ u32At (now (objects .entry)) (4 * i) ⌝ }
+    requires { 4 * i + 4 ≤ length objects.now }
+    ensures { result ≡ u32_at objects.now (4 * i) }
 {
     let at = 4 * i;
     u32::from_be_bytes([

@@ -1,16 +1,14 @@
 use crate::words::word;
 use lines::Lines;
-use std::test::*;
-use wire::Census;
-use wire::House;
-use wire::Name;
-use wire::Stamp;
+use wire::{Census, House, Name, Stamp};
 
 // Enters a line for each place; whether all had room.
 fn fill(list: &mut Lines) -> bool {
     for i in 0..2048u32 {
-        if list.enter(Name(16 * i + 16), House(1), Stamp(i + 1), Census(0))
-            .is_err() {
+        if list
+            .enter(Name(16 * i + 16), House(1), Stamp(i + 1), Census(0))
+            .is_err()
+        {
             return false;
         }
     }
@@ -30,7 +28,7 @@ fn first_objects(part: &mut [u8; 8000]) {
 
 // A full list refuses a new line, and a word that holds the first 2,000 objects takes the others away.
 #[test]
-fn full_list() -> Result<(), Fail> {
+fn full_list(rt: HostRuntime) {
     let mut objects = [0u32; 2100];
     let mut holders = [0u32; 2100];
     let mut stamps = [0u32; 2100];
@@ -43,19 +41,19 @@ fn full_list() -> Result<(), Fail> {
         House(0),
         3,
     );
-    check(fill(&mut list) && list.len() == 2048)?;
-    check(list.enter(Name(16), House(2), Stamp(1), Census(0)).is_err())?;
-    check(
+    assert!(rt; fill(&mut list) && list.len() == 2048);
+    assert!(rt; list.enter(Name(16), House(2), Stamp(1), Census(0)).is_err());
+    assert!(rt;
         list.enter(Name(16), House(1), Stamp(5000), Census(0))
             .is_ok()
-            && list.len() == 2048,
-    )?;
+            && list.len() == 2048
+    );
     let mut part = [0u8; 8000];
     first_objects(&mut part);
-    check(word(&mut list, House(1), Stamp(2040), &part))?;
-    check(list.len() == 2008)?;
-    check(
-        list.find(Name(32000), House(1)).is_some() && list.find(Name(32016), House(1)).is_none(),
-    )?;
-    check(list.find(Name(32656), House(1)).is_some())
+    assert!(rt; word(&mut list, House(1), Stamp(2040), &part));
+    assert!(rt; list.len() == 2008);
+    assert!(rt;
+        list.find(Name(32000), House(1)).is_some() && list.find(Name(32016), House(1)).is_none()
+    );
+    assert!(rt; list.find(Name(32656), House(1)).is_some());
 }

@@ -1,12 +1,7 @@
 use crate::words::word;
-use lines::Lines;
-use lines::Stamps;
-use std::test::*;
-use wire::Census;
-use wire::House;
-use wire::Name;
-use wire::Refusal;
-use wire::Stamp;
+use lines::{Lines, Stamps};
+use std::test::Fail;
+use wire::{Census, House, Name, Refusal, Stamp};
 
 // The number of the refusal, 0 for none.
 fn number(answer: Result<(), Refusal>) -> u8 {
@@ -29,7 +24,7 @@ fn is_line(list: &Lines, i: usize, object: u32, holder: u8, stamp: u32, census: 
 
 // An empty list finds nothing, and its calls change nothing.
 #[test]
-fn no_lines() -> Result<(), Fail> {
+fn no_lines(rt: HostRuntime) {
     let mut objects = [0u32; 8];
     let mut holders = [0u32; 8];
     let mut stamps = [0u32; 8];
@@ -44,16 +39,16 @@ fn no_lines() -> Result<(), Fail> {
     );
     list.join(Census(1), &Stamps::new());
     list.sweep(Census(2));
-    check(word(&mut list, House(1), Stamp(9), &[]))?;
-    check(!list.mark(Name(16), House(1), Census(1)))?;
-    check(list.find(Name(16), House(1)).is_none())?;
-    check(list.line(0).is_none())?;
-    check(list.len() == 0)
+    assert!(rt; word(&mut list, House(1), Stamp(9), &[]));
+    assert!(rt; !list.mark(Name(16), House(1), Census(1)));
+    assert!(rt; list.find(Name(16), House(1)).is_none());
+    assert!(rt; list.line(0).is_none());
+    assert!(rt; list.len() == 0);
 }
 
 // A line is entered, found, changed in place, marked once and taken away by a word.
 #[test]
-fn one_line() -> Result<(), Fail> {
+fn one_line(rt: HostRuntime) {
     let mut objects = [0u32; 8];
     let mut holders = [0u32; 8];
     let mut stamps = [0u32; 8];
@@ -66,24 +61,24 @@ fn one_line() -> Result<(), Fail> {
         House(0),
         3,
     );
-    check(number(list.enter(Name(16), House(1), Stamp(1), Census(0))) == 0)?;
-    check(number(list.enter(Name(16), House(1), Stamp(2), Census(4))) == 0)?;
-    check(list.len() == 1 && is_line(&list, 0, 16, 1, 2, 4))?;
-    check(
-        list.is_held(Name(16), House(1), Census(4)) && !list.is_held(Name(16), House(2), Census(4)),
-    )?;
-    check(list.mark(Name(16), House(1), Census(5)))?;
-    check(!list.mark(Name(16), House(1), Census(5)))?;
-    check(word(&mut list, House(2), Stamp(2), &[]) && list.len() == 1)?;
-    check(word(&mut list, House(1), Stamp(1), &[]) && list.len() == 1)?;
-    check(word(&mut list, House(1), Stamp(2), &[0, 0, 0, 16]) && list.len() == 1)?;
-    check(is_line(&list, 0, 16, 1, 2, 5))?;
-    check(word(&mut list, House(1), Stamp(2), &[0, 0, 0, 32]) && list.len() == 0)
+    assert!(rt; number(list.enter(Name(16), House(1), Stamp(1), Census(0))) == 0);
+    assert!(rt; number(list.enter(Name(16), House(1), Stamp(2), Census(4))) == 0);
+    assert!(rt; list.len() == 1 && is_line(&list, 0, 16, 1, 2, 4));
+    assert!(rt;
+        list.is_held(Name(16), House(1), Census(4)) && !list.is_held(Name(16), House(2), Census(4))
+    );
+    assert!(rt; list.mark(Name(16), House(1), Census(5)));
+    assert!(rt; !list.mark(Name(16), House(1), Census(5)));
+    assert!(rt; word(&mut list, House(2), Stamp(2), &[]) && list.len() == 1);
+    assert!(rt; word(&mut list, House(1), Stamp(1), &[]) && list.len() == 1);
+    assert!(rt; word(&mut list, House(1), Stamp(2), &[0, 0, 0, 16]) && list.len() == 1);
+    assert!(rt; is_line(&list, 0, 16, 1, 2, 5));
+    assert!(rt; word(&mut list, House(1), Stamp(2), &[0, 0, 0, 32]) && list.len() == 0);
 }
 
 // What is refused: an object of elsewhere, this house or no house as the holder, a new line in a full list.
 #[test]
-fn refusals() -> Result<(), Fail> {
+fn refusals(rt: HostRuntime) {
     let mut objects = [0u32; 2];
     let mut holders = [0u32; 2];
     let mut stamps = [0u32; 3];
@@ -96,20 +91,22 @@ fn refusals() -> Result<(), Fail> {
         House(1),
         3,
     );
-    check(number(list.enter(Name(16), House(2), Stamp(1), Census(0))) == 1)?;
-    check(number(list.enter(Name(17), House(1), Stamp(1), Census(0))) == 1)?;
-    check(number(list.enter(Name(17), House(3), Stamp(1), Census(0))) == 1)?;
-    check(number(list.enter(Name(17), House(2), Stamp(1), Census(0))) == 0)?;
-    check(number(list.enter(Name(17), House(0), Stamp(1), Census(0))) == 0)?;
-    check(!list.has_room(Name(33), House(2)) && list.has_room(Name(17), House(2)))?;
-    check(number(list.enter(Name(33), House(2), Stamp(2), Census(0))) == 9)?;
-    check(number(list.enter(Name(17), House(0), Stamp(2), Census(0))) == 0)?;
-    check(is_line(&list, 0, 17, 2, 1, 0) && is_line(&list, 1, 17, 0, 2, 0) && list.len() == 2)
+    assert!(rt; number(list.enter(Name(16), House(2), Stamp(1), Census(0))) == 1);
+    assert!(rt; number(list.enter(Name(17), House(1), Stamp(1), Census(0))) == 1);
+    assert!(rt; number(list.enter(Name(17), House(3), Stamp(1), Census(0))) == 1);
+    assert!(rt; number(list.enter(Name(17), House(2), Stamp(1), Census(0))) == 0);
+    assert!(rt; number(list.enter(Name(17), House(0), Stamp(1), Census(0))) == 0);
+    assert!(rt; !list.has_room(Name(33), House(2)) && list.has_room(Name(17), House(2)));
+    assert!(rt; number(list.enter(Name(33), House(2), Stamp(2), Census(0))) == 9);
+    assert!(rt; number(list.enter(Name(17), House(0), Stamp(2), Census(0))) == 0);
+    assert!(rt;
+        is_line(&list, 0, 17, 2, 1, 0) && is_line(&list, 1, 17, 0, 2, 0) && list.len() == 2
+    );
 }
 
 // A word takes its holder's lines away, up to its stamp, but for what it holds; the others close up in order.
 #[test]
-fn closing_up() -> Result<(), Fail> {
+fn closing_up(rt: HostRuntime) {
     let mut objects = [0u32; 8];
     let mut holders = [0u32; 8];
     let mut stamps = [0u32; 8];
@@ -122,19 +119,19 @@ fn closing_up() -> Result<(), Fail> {
         House(0),
         3,
     );
-    check(list.enter(Name(16), House(1), Stamp(1), Census(0)).is_ok())?;
-    check(list.enter(Name(16), House(2), Stamp(1), Census(0)).is_ok())?;
-    check(list.enter(Name(48), House(1), Stamp(2), Census(0)).is_ok())?;
-    check(list.enter(Name(32), House(1), Stamp(3), Census(0)).is_ok())?;
-    check(list.enter(Name(64), House(1), Stamp(4), Census(0)).is_ok())?;
-    check(word(&mut list, House(1), Stamp(3), &[0, 0, 0, 48, 0, 0, 0, 80]))?;
-    check(list.len() == 3 && is_line(&list, 0, 16, 2, 1, 0))?;
-    check(is_line(&list, 1, 48, 1, 2, 0) && is_line(&list, 2, 64, 1, 4, 0))
+    assert!(rt; list.enter(Name(16), House(1), Stamp(1), Census(0)).is_ok());
+    assert!(rt; list.enter(Name(16), House(2), Stamp(1), Census(0)).is_ok());
+    assert!(rt; list.enter(Name(48), House(1), Stamp(2), Census(0)).is_ok());
+    assert!(rt; list.enter(Name(32), House(1), Stamp(3), Census(0)).is_ok());
+    assert!(rt; list.enter(Name(64), House(1), Stamp(4), Census(0)).is_ok());
+    assert!(rt; word(&mut list, House(1), Stamp(3), &[0, 0, 0, 48, 0, 0, 0, 80]));
+    assert!(rt; list.len() == 3 && is_line(&list, 0, 16, 2, 1, 0));
+    assert!(rt; is_line(&list, 1, 48, 1, 2, 0) && is_line(&list, 2, 64, 1, 4, 0));
 }
 
 // Lines not yet heard join a census, a telling marks another, and the rest is swept.
 #[test]
-fn a_census() -> Result<(), Fail> {
+fn a_census(rt: HostRuntime) {
     let mut objects = [0u32; 8];
     let mut holders = [0u32; 8];
     let mut stamps = [0u32; 8];
@@ -148,34 +145,41 @@ fn a_census() -> Result<(), Fail> {
         3,
     );
     let mut seen = Stamps::new();
-    check(list.enter(Name(16), House(1), Stamp(1), Census(0)).is_ok())?;
-    check(list.enter(Name(32), House(1), Stamp(2), Census(0)).is_ok())?;
-    check(list.enter(Name(48), House(2), Stamp(1), Census(0)).is_ok())?;
-    check(seen.hear(House(1), Stamp(2)).is_ok() && seen.hear(House(1), Stamp(1)).is_ok())?;
+    assert!(rt; list.enter(Name(16), House(1), Stamp(1), Census(0)).is_ok());
+    assert!(rt; list.enter(Name(32), House(1), Stamp(2), Census(0)).is_ok());
+    assert!(rt; list.enter(Name(48), House(2), Stamp(1), Census(0)).is_ok());
+    assert!(rt; seen.hear(House(1), Stamp(2)).is_ok() && seen.hear(House(1), Stamp(1)).is_ok());
     list.join(Census(1), &seen);
-    check(list.mark(Name(32), House(1), Census(1)))?;
+    assert!(rt; list.mark(Name(32), House(1), Census(1)));
     let mut names = [Name(0); 2048];
-    check(
-        list.objects(&mut names) == 3 && names[0].0 == 16 && names[1].0 == 32 && names[2].0 == 48,
-    )?;
-    check(list.objects_in(Census(1), &mut names) == 2 && names[0].0 == 32 && names[1].0 == 48)?;
+    assert!(rt;
+        list.objects(&mut names) == 3 && names[0].0 == 16 && names[1].0 == 32 && names[2].0 == 48
+    );
+    assert!(rt;
+        list.objects_in(Census(1), &mut names) == 2 && names[0].0 == 32 && names[1].0 == 48
+    );
     list.sweep(Census(1));
-    check(list.len() == 2 && is_line(&list, 0, 32, 1, 2, 1) && is_line(&list, 1, 48, 2, 1, 1))
+    assert!(rt;
+        list.len() == 2 && is_line(&list, 0, 32, 1, 2, 1) && is_line(&list, 1, 48, 2, 1, 1)
+    );
 }
 
 // Stamps for a house rise from 1 and end at 4,294,967,295; one that came is new only above the highest.
 #[test]
-fn stamping() -> Result<(), Fail> {
+fn stamping(rt: HostRuntime) -> Result<(), Fail> {
     let mut stamps = Stamps::new();
-    check(matches!(stamps.give(House(3)), Ok(Stamp(1))))?;
-    check(matches!(stamps.give(House(3)), Ok(Stamp(2))))?;
-    check(number(stamps.see(House(15), Stamp(7))) == 0)?;
-    check(number(stamps.see(House(15), Stamp(7))) == 7)?;
-    check(number(stamps.see(House(16), Stamp(1))) == 1)?;
-    check(stamps.seen_from(House(15)).0 == 7 && stamps.heard_from(House(15)).0 == 0)?;
+    assert!(rt; matches!(stamps.give(House(3)), Ok(Stamp(1))));
+    assert!(rt; matches!(stamps.give(House(3)), Ok(Stamp(2))));
+    assert!(rt; number(stamps.see(House(15), Stamp(7))) == 0);
+    assert!(rt; number(stamps.see(House(15), Stamp(7))) == 7);
+    assert!(rt; number(stamps.see(House(16), Stamp(1))) == 1);
+    assert!(rt; stamps.seen_from(House(15)).0 == 7 && stamps.heard_from(House(15)).0 == 0);
     stamps.given[3] = 4294967295;
     match stamps.give(House(3)) {
         Ok(_) => Err(Fail::new("a stamp past the end")),
-        Err(refusal) => check(refusal.number() == 10),
+        Err(refusal) => {
+            assert!(rt; refusal.number() == 10);
+            Ok(())
+        },
     }
 }

@@ -1,12 +1,12 @@
-ghost use mathlib.Core.Path.{_≡_};
-ghost use Rattle·wire.specs.Format.{numbers, rising};
+ghost use Rattle.std.specs.Prelude.{◌≡◌};
+ghost use Rattle.wire.specs.Format.{numbers, rising};
+
 use lines::Lines;
-use wire::House;
-use wire::Stamp;
+use wire::{House, Stamp};
 
 // Whether the objects of a part rise and live in this house.
 fn rises(objects: &[u8], home: House) -> bool
-    ensures { λ r. ⌜ r ≡ rising (home .0) 15 (numbers (now (objects .entry))) ⌝ }
+    ensures { result ≡ rising home.0 15 (numbers objects.now) }
 {
     let mut low = 15;
     let mut rest = objects;

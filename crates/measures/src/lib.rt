@@ -1,11 +1,9 @@
 // What is measured from other languages, from a static library: a house is told some lines, as the program `house` is, and then does one thing many times.
 use node::Answer;
-use std::alloc::AllocError;
-use std::alloc::Global;
+use std::alloc::{AllocError, Global};
 use store::Store;
 use text::Line;
-use wire::House;
-use wire::Refusal;
+use wire::{House, Refusal};
 
 fn told_line(heap: Global, store: &mut Store, line: &[u8]) -> Result<Answer, AllocError> {
     match text::read_line(line) {

@@ -1,35 +1,31 @@
 -- The houses of a row, one of them changed.
-use mathlib.Core.Path.{_≡_, refl, sym, _∙_, ap, subst, fun-ext}
-use mathlib.Core.Bool.{Bool, true, false, cond}
-use mathlib.Core.List.{List, map}
-use Prim.Native.Nat.{ℕ, _<_}
-use lib.Dec.{eqb}
-use lib.ListN.{length, getD, set}
-use Rattle·std.proofs.shelf.Lists.{map-set, getD-map, length-set, getD-set-same, getD-set-other}
-use Rattle·std.proofs.shelf.Tests.{eqb-true, eqb-false}
-use Rattle·rules.specs.House.{House, empty}
-use Rattle·rules.specs.Step.{Event}
-use Rattle·node.specs.declared.sent.Answer.{Answer}
-use Rattle·node.specs.Shown.{Does}
-use Rattle·play.specs.Play.{put}
-use Rattle·store.specs.declared.table.Store.{Store}
-use Rattle·store.specs.Stores.{houseIn}
-use Rattle·net·specs.Worlds.{housesOf}
+use Rattle.std.proofs.Common.{◌≡◌, ℕ, ◌<◌, Bool, true, false, cond, eqb, List, map, length, get_or, set, sym, refl, ap, ◌∙◌, subst}
+use mathlib.Core.Path.{fun_ext}
+use Rattle.std.proofs.lemmas.List.{map-set, get_or-map, length-set, get_or-set_same, get_or-set_other}
+use Rattle.std.proofs.lemmas.Bool.{eqb-true, eqb-false}
+use Rattle.rules.specs.House.{House, empty}
+use Rattle.rules.specs.Step.{Event}
+use Rattle.node.specs.declared.sent.Answer.{Answer}
+use Rattle.node.specs.Shown.{Does}
+use Rattle.play.specs.Play.{put}
+use Rattle.store.specs.declared.table.Store.{Store}
+use Rattle.store.specs.Stores.{house_in}
+use Rattle.net.specs.Worlds.{houses_of}
 
-pub at-row : (hs : List Store) (i : ℕ) (d : Store) → i < length hs → housesOf hs i ≡ houseIn (getD hs i d)
-at-row hs i d lt = getD-map houseIn hs i d (empty i (length hs)) lt
+pub at_row : (hs : List Store) (i : ℕ) (d : Store) → i < length hs → houses_of hs i ≡ house_in (get_or hs i d)
+at_row hs i d lt = get_or-map house_in hs i d (empty i (length hs)) lt
 
 module _ (hs : List Store) (i : ℕ) (t : Store) (lt : i < length hs) where
-  changed-here : housesOf (set hs i t) i ≡ houseIn t
-  changed-here = at-row (set hs i t) i t (subst (λ (k : ℕ). i < k) (sym (length-set hs i t)) lt) ∙ ap houseIn (getD-set-same hs i t t lt)
+  changed_here : houses_of (set hs i t) i ≡ house_in t
+  changed_here = at_row (set hs i t) i t (subst (λ (k : ℕ). i < k) (sym (length-set hs i t)) lt) ∙ ap house_in (get_or-set_same hs i t t lt)
 
-  pub others : housesOf (set hs i t) ≡ put i (housesOf (set hs i t) i) (housesOf hs)
-  others = fun-ext (λ k. go k (eqb k i) refl)
+  pub others : houses_of (set hs i t) ≡ put i (houses_of (set hs i t) i) (houses_of hs)
+  others = fun_ext (λ k. go k (eqb k i) refl)
     where
-      go : (k : ℕ) (b : Bool) → eqb k i ≡ b → housesOf (set hs i t) k ≡ cond b (housesOf (set hs i t) i) (housesOf hs k)
-      go k true e = ap (housesOf (set hs i t)) (eqb-true k i e)
+      go : (k : ℕ) (b : Bool) → eqb k i ≡ b → houses_of (set hs i t) k ≡ cond b (houses_of (set hs i t) i) (houses_of hs k)
+      go k true e = ap (houses_of (set hs i t)) (eqb-true k i e)
       go k false e =
-          ap (λ (n : ℕ). getD (map houseIn (set hs i t)) k (empty k n)) (length-set hs i t) ∙ ap (λ (xs : List House). getD xs k (empty k (length hs))) (map-set houseIn hs i t) ∙ getD-set-other (map houseIn hs) i k (houseIn t) (empty k (length hs)) (eqb-false k i e)
+          ap (λ (n : ℕ). get_or (map house_in (set hs i t)) k (empty k n)) (length-set hs i t) ∙ ap (λ (xs : List House). get_or xs k (empty k (length hs))) (map-set house_in hs i t) ∙ get_or-set_other (map house_in hs) i k (house_in t) (empty k (length hs)) (eqb-false k i e)
 
-  pub does-at : (d : Store) (a : Answer) (e : Event) → Does a e (houseIn (getD hs i d)) (houseIn t) → Does a e (housesOf hs i) (housesOf (set hs i t) i)
-  does-at d a e s = subst (λ (x : House). Does a e x (housesOf (set hs i t) i)) (sym (at-row hs i d lt)) (subst (λ (x : House). Does a e (houseIn (getD hs i d)) x) (sym changed-here) s)
+  pub does_at : (d : Store) (a : Answer) (e : Event) → Does a e (house_in (get_or hs i d)) (house_in t) → Does a e (houses_of hs i) (houses_of (set hs i t) i)
+  does_at d a e s = subst (λ (x : House). Does a e x (houses_of (set hs i t) i)) (sym (at_row hs i d lt)) (subst (λ (x : House). Does a e (house_in (get_or hs i d)) x) (sym changed_here) s)

@@ -1,10 +1,10 @@
 -- What holds of every net, whatever is played.
-use Rattle·rules.specs.Sound.{KeepsSound}
-use Rattle·promise.specs.Careless.{StirredNeeded}
-use Rattle·play.specs.Promise.{AlwaysSafe}
-use Rattle·play.specs.Exact.{AlwaysSettles, NothingLeft}
-use Rattle·play.specs.Bound.{Bounded, TwoRounds, FewPasses, FewLines}
-use Rattle·play.specs.Cases.{AllCases, GoesOn}
+use Rattle.rules.specs.Sound.{KeepsSound}
+use Rattle.promise.specs.Careless.{StirredNeeded}
+use Rattle.play.specs.Promise.{AlwaysSafe}
+use Rattle.play.specs.Exact.{AlwaysSettles, NothingLeft}
+use Rattle.play.specs.Bound.{Bounded, TwoRounds, FewPasses, FewLines}
+use Rattle.play.specs.Cases.{AllCases, GoesOn}
 
 pub record Lawful : Type 0 where
   -- over every list of entries and every number of houses: whatever matters is there, and its home has a line for each house that has it
@@ -20,7 +20,7 @@ pub record Lawful : Type 0 where
   pub left : NothingLeft
   -- eight small cases, to the last byte, and that a script is played entry by entry
   pub cases : AllCases
-  pub goes-on : GoesOn
+  pub goes_on : GoesOn
   -- every step leaves a house within its limits
   pub sound : KeepsSound
   -- without the care at the second round something that matters may be lost

@@ -1,7 +1,6 @@
 -- Houses with nothing in them.
-use mathlib.Core.List.{List, [], _∷_, _++_}
-use Prim.Native.Nat.{ℕ, zero, suc}
-use Rattle·rules.specs.House.{House, empty}
+use Rattle.std.specs.Prelude.{ℕ, zero, suc, List, [], ◌∷◌, ◌++◌}
+use Rattle.rules.specs.House.{House, empty}
 
 -- the first k of n
 abbrev pub empties : ℕ → ℕ → List House

@@ -1,56 +1,51 @@
 -- What a part of settling does to a net, and what the whole of it leaves.
-use mathlib.Core.Path.{_≡_}
-use mathlib.Core.Bool.{Bool, true, false}
-use mathlib.Core.List.{List, [], _∷_}
-use Prim.Native.Nat.{ℕ, _<_}
-use Rattle·std.specs.declared.option.Option.{Option}
-use Rattle·std.specs.declared.option.Option.the-variants.{None, Some}
-use Rattle·node.specs.declared.sent.Recipient.{Recipient}
-use Rattle·node.specs.declared.sent.Recipient.the-variants.{One, Every}
-use Rattle·play.specs.Play.{World, Entry, plays}
-use Rattle·play.specs.Settle.{below, above, settling}
-use Rattle·play.specs.Exact.{Settles}
-use Rattle·net·specs.Nets.{count, world}
-use Rattle·net·specs.declared.net.Net.{Net}
-use Rattle·net·specs.declared.played.Played.{Played}
-use Rattle·net·specs.declared.played.Played.the-variants.{Done, Refused, NoMemory, Lost}
-use Rattle·net·specs.declared.settled.Settled.{Settled}
-use Rattle·net·specs.declared.settled.Settled.the-variants as settled
+use Rattle.std.specs.Prelude.{◌≡◌, ℕ, ◌<◌, Bool, true, false, List, [], ◌∷◌, Some, None, Option}
+use Rattle.node.specs.declared.sent.Recipient.{Recipient}
+use Rattle.node.specs.declared.sent.Recipient.TheVariants.{One, Every}
+use Rattle.play.specs.Play.{World, Entry, plays}
+use Rattle.play.specs.Settle.{below, above, settling}
+use Rattle.play.specs.Exact.{Settles}
+use Rattle.net.specs.Nets.{count, world}
+use Rattle.net.specs.declared.net.Net.{Net}
+use Rattle.net.specs.declared.played.Played.{Played}
+use Rattle.net.specs.declared.played.Played.TheVariants.{Done, Refused, NoMemory, Lost}
+use Rattle.net.specs.declared.settled.Settled.{Settled}
+use Rattle.net.specs.declared.settled.Settled.TheVariants as settled
 
 -- entries, computed from the number of houses and the world
 abbrev pub Script : Type 0
 Script = ℕ → World → List Entry
 
 -- there was memory for it
-abbrev pub wentOn : Played → Bool
-wentOn Done = true
-wentOn (Refused x) = true
-wentOn NoMemory = false
-wentOn Lost = false
+abbrev pub went_on : Played → Bool
+went_on Done = true
+went_on (Refused x) = true
+went_on NoMemory = false
+went_on Lost = false
 
 -- from t to u: the houses are so many as before, and if all went on, these entries were played, and none was lost
 pub record Along (r : Bool) (es : Script) (t u : Net) : Type 0 where
   pub houses : count u ≡ count t
   pub played : r ≡ true → world u ≡ plays (count t) (es (count t) (world t)) (world t)
-  pub faithful : r ≡ true → u .faithful ≡ t .faithful
+  pub faithful : r ≡ true → u.faithful ≡ t.faithful
 
 -- on the way from t, at u: to play these entries from t is to play those from u
 pub record Rest (es fs : Script) (t u : Net) : Type 0 where
   pub houses : count u ≡ count t
   pub left : plays (count t) (es (count t) (world t)) (world t) ≡ plays (count t) (fs (count t) (world u)) (world u)
-  pub faithful : u .faithful ≡ t .faithful
+  pub faithful : u.faithful ≡ t.faithful
 
 -- the houses that a message comes to
 abbrev pub receivers : ℕ → Option Recipient → List ℕ
-receivers n (Some (One h)) = h .0 ∷ []
+receivers n (Some (One h)) = h.0 ∷ []
 receivers n (Some Every) = below n
 receivers n None = []
 
 -- all was played; and what is left is exactly what matters, if nobody forged a message
 pub record Whole (t u : Net) : Type 0 where
   pub played : world u ≡ plays (count t) (settling (count t) (world t)) (world t)
-  pub faithful : u .faithful ≡ t .faithful
-  pub exact : t .faithful ≡ true → ∥ Settles (count t) (world t) (world u) ∥₁
+  pub faithful : u.faithful ≡ t.faithful
+  pub exact : t.faithful ≡ true → ∥ Settles (count t) (world t) (world u) ∥₁
 
 abbrev pub Ends : Settled → Net → Net → Type 0
 Ends settled.Done t u = Whole t u

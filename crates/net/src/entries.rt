@@ -1,39 +1,33 @@
-ghost use mathlib.Core.Path.{_≡_};
-ghost use mathlib.Core.Bool.{true, false, cond};
-ghost use Prim.Native.Nat.{_<_};
-ghost use lib.ListN.{length};
-ghost use Rattle·std.specs.Of.Vec.{vec-items};
-ghost use Rattle·rules.specs.Step.{came, eventOf};
-ghost use Rattle·node.specs.Shown.{Does};
-ghost use Rattle·play.specs.Play.{put, calls, delivers};
-ghost use Rattle·net·specs.Worlds.{housesOf};
-ghost use Rattle·net·specs.Nets.{count, world, Plays, Forges, isLost, Promised};
+ghost use Rattle.std.specs.Prelude.{◌≡◌, ◌<◌, true, false, length, if◌then◌else◌};
+ghost use Rattle.rules.specs.Step.{came, event_of};
+ghost use Rattle.node.specs.Shown.{Does};
+ghost use Rattle.play.specs.Play.{put, calls, delivers};
+ghost use Rattle.net.specs.Worlds.{houses_of};
+ghost use Rattle.net.specs.Nets.{count, world, Plays, Forges, is_lost, Promised};
+
 use crate::net::Net;
-use crate::played::Played;
-use crate::played::still;
+use crate::played::{Played, still};
 use crate::sending::keep;
 use node::Answer;
 use store::Store;
-use wire::Call;
-use wire::House;
-use wire::Refusal;
+use wire::{Call, House, Refusal};
 
 // A call at house `i` of a row of houses.
 fn call_at(houses: &mut [Store], i: usize, call: Call) -> Answer
-    requires { ⌜ i < length (now houses) ⌝ }
-    ensures does { λ r. ⌜ Does r (eventOf call) (housesOf (now (houses .entry)) i) (housesOf (now (houses .exit)) i) ⌝ }
-    ensures others { λ _. ⌜ housesOf (now (houses .exit)) ≡ put i (housesOf (now (houses .exit)) i) (housesOf (now (houses .entry))) ⌝ }
-    ensures long { λ _. ⌜ length (now (houses .exit)) ≡ length (now (houses .entry)) ⌝ }
+    requires { i < length houses.old }
+    ensures does { Does result (event_of call) (houses_of houses.old i) (houses_of houses.new i) }
+    ensures others { houses_of houses.new ≡ put i (houses_of houses.new i) (houses_of houses.old) }
+    ensures long { length houses.new ≡ length houses.old }
 {
     houses[i].call(call)
 }
 
 // Bytes come to house `i` of a row of houses.
 fn got_at(houses: &mut [Store], i: usize, bytes: &[u8]) -> Answer
-    requires { ⌜ i < length (now houses) ⌝ }
-    ensures does { λ r. ⌜ Does r (came (now (bytes .entry))) (housesOf (now (houses .entry)) i) (housesOf (now (houses .exit)) i) ⌝ }
-    ensures others { λ _. ⌜ housesOf (now (houses .exit)) ≡ put i (housesOf (now (houses .exit)) i) (housesOf (now (houses .entry))) ⌝ }
-    ensures long { λ _. ⌜ length (now (houses .exit)) ≡ length (now (houses .entry)) ⌝ }
+    requires { i < length houses.old }
+    ensures does { Does result (came bytes.now) (houses_of houses.old i) (houses_of houses.new i) }
+    ensures others { houses_of houses.new ≡ put i (houses_of houses.new i) (houses_of houses.old) }
+    ensures long { length houses.new ≡ length houses.old }
 {
     houses[i].got(bytes)
 }
@@ -41,10 +35,10 @@ fn got_at(houses: &mut [Store], i: usize, bytes: &[u8]) -> Answer
 impl Net {
     // A call at a house.
     pub fn call(&mut self, house: House, call: Call) -> Played
-        ensures plays { λ r. ⌜ Plays r (count (now (self .entry))) (calls (house .0) call) (world (now (self .entry))) (world (now (self .exit))) ⌝ }
-        ensures faithful { λ r. ⌜ now (self .exit) .faithful ≡ cond (isLost r) false (now (self .entry) .faithful) ⌝ }
-        ensures count { λ _. ⌜ count (now (self .exit)) ≡ count (now (self .entry)) ⌝ }
-        ensures promise { λ _. ⌜ Promised (now (self .exit)) ⌝ }
+        ensures plays { Plays result (count self.old) (calls house.0 call) (world self.old) (world self.new) }
+        ensures faithful { self.new.faithful ≡ (if is_lost result then false else self.old.faithful) }
+        ensures count { count self.new ≡ count self.old }
+        ensures promise { Promised self.new }
     {
         let i = house.0 as usize;
         if i >= self.houses.len() {
@@ -60,10 +54,10 @@ impl Net {
 impl Net {
     // Message number `message`, counted from 0, comes to a house: at any time, any number of times.
     pub fn deliver(&mut self, house: House, message: usize) -> Played
-        ensures plays { λ r. ⌜ Plays r (count (now (self .entry))) (delivers (house .0) message) (world (now (self .entry))) (world (now (self .exit))) ⌝ }
-        ensures faithful { λ r. ⌜ now (self .exit) .faithful ≡ cond (isLost r) false (now (self .entry) .faithful) ⌝ }
-        ensures count { λ _. ⌜ count (now (self .exit)) ≡ count (now (self .entry)) ⌝ }
-        ensures promise { λ _. ⌜ Promised (now (self .exit)) ⌝ }
+        ensures plays { Plays result (count self.old) (delivers house.0 message) (world self.old) (world self.new) }
+        ensures faithful { self.new.faithful ≡ (if is_lost result then false else self.old.faithful) }
+        ensures count { count self.new ≡ count self.old }
+        ensures promise { Promised self.new }
     {
         let i = house.0 as usize;
         if i >= self.houses.len() {
@@ -80,9 +74,9 @@ impl Net {
 
     // These bytes come to a house, whoever wrote them: from now on nothing is promised of the net, since a forged message may say anything.
     pub fn forge(&mut self, house: House, bytes: &[u8]) -> Played
-        ensures faithful { λ _. ⌜ now (self .exit) .faithful ≡ false ⌝ }
-        ensures count { λ _. ⌜ count (now (self .exit)) ≡ count (now (self .entry)) ⌝ }
-        ensures acts { λ r. ⌜ Forges r (count (now (self .entry))) (house .0) (now (bytes .entry)) (world (now (self .entry))) (world (now (self .exit))) ⌝ }
+        ensures faithful { self.new.faithful ≡ false }
+        ensures count { count self.new ≡ count self.old }
+        ensures acts { Forges result (count self.old) house.0 bytes.now (world self.old) (world self.new) }
     {
         self.faithful = false;
         let i = house.0 as usize;

@@ -1,11 +1,8 @@
-ghost use mathlib.Core.Path.{_≡_};
-ghost use mathlib.Core.Bool.{true};
-ghost use Prim.Native.Nat.{_<_, _≤_};
-ghost use lib.ListN.{length};
-ghost use Rattle·std.specs.Of.Vec.{vec-items};
-ghost use Rattle·store.specs.Sending.{contents};
-ghost use Rattle·play.specs.Play.{Reach};
-ghost use Rattle·net·specs.Worlds.{worldOf};
+ghost use Rattle.std.specs.Prelude.{◌≡◌, ◌<◌, ◌≤◌, true, length};
+ghost use Rattle.store.specs.Sending.{contents};
+ghost use Rattle.play.specs.Play.{Reach};
+ghost use Rattle.net.specs.Worlds.{world_of};
+
 use std::alloc::Global;
 use store::Store;
 
@@ -16,7 +13,7 @@ pub struct Net {
     pub(crate) houses: Vec<Store>,
     pub(crate) sent: Vec<Vec<u8>>,
     pub(crate) faithful: bool,
-    ghost some: { 0 < length (vec-items houses) },
-    ghost few: { length (vec-items houses) ≤ 16 },
-    ghost reached: { (faithful ≡ true → ∥ Reach (length (vec-items houses)) (worldOf (vec-items houses) (contents sent)) ∥₁) },
+    ghost some: { 0 < length houses.items },
+    ghost few: { length houses.items ≤ 16 },
+    ghost reached: { (faithful ≡ true → ∥ Reach (length houses.items) (world_of houses.items (contents sent)) ∥₁) },
 }

@@ -1,6 +1,6 @@
-ghost use mathlib.Core.Path.{_≡_};
-ghost use mathlib.Core.Bool.{false, cond};
-ghost use Rattle·net·specs.Nets.{isLost};
+ghost use Rattle.std.specs.Prelude.{◌≡◌, false, if◌then◌else◌};
+ghost use Rattle.net.specs.Nets.{is_lost};
+
 use wire::Refusal;
 
 // How an entry ended.
@@ -18,7 +18,7 @@ pub enum Played {
 
 // A net stays faithful while no message that was sent is lost to it.
 pub(crate) fn still(faithful: bool, played: Played) -> bool
-    ensures { λ r. ⌜ r ≡ cond (isLost played) false faithful ⌝ }
+    ensures { result ≡ (if is_lost played then false else faithful) }
 {
     match played {
         Played::Done | Played::Refused(_) | Played::NoMemory => faithful,

@@ -1,12 +1,13 @@
-ghost use mathlib.Core.Path.{_≡_};
-ghost use Rattle·net·specs.Posted.{Posted};
+ghost use Rattle.std.specs.Prelude.{◌≡◌};
+ghost use Rattle.net.specs.Posted.{Posted};
+
 use crate::played::Played;
 use node::Answer;
 use std::alloc::Global;
 
 // What a house sent is kept.
 pub(crate) fn keep(heap: Global, answer: Answer, sent: &mut Vec<Vec<u8>>) -> Played
-    ensures { λ r. ⌜ Posted r answer (now (sent .entry)) (now (sent .exit)) ⌝ }
+    ensures { Posted result answer sent.old sent.new }
 {
     match answer {
         Answer::Refused(refusal) => Played::Refused(refusal),

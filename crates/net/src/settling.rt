@@ -1,20 +1,18 @@
-ghost use mathlib.Core.Path.{_≡_};
-ghost use Prim.Native.Nat.{_+_, _*_};
-ghost use Rattle·play.specs.Settle.{wordTo, words, each, joins, above, tallies, passes, completing};
-ghost use Rattle·net·specs.Nets.{count, world, Promised};
-ghost use Rattle·net·specs.Settling.{Along, Ends};
+ghost use Rattle.std.specs.Prelude.{◌≡◌, ◌+◌, ◌*◌};
+ghost use Rattle.play.specs.Settle.{word_to, words, each, joins, above, tallies, passes, completing};
+ghost use Rattle.net.specs.Nets.{count, world, Promised};
+ghost use Rattle.net.specs.Settling.{Along, Ends};
+
 use crate::net::Net;
 use crate::settled::Settled;
-use crate::settling_houses::above;
-use crate::settling_houses::tallies;
+use crate::settling_houses::{above, tallies};
 use census::ASKER;
-use wire::Call;
-use wire::House;
+use wire::{Call, House};
 
 impl Net {
     // A word of house `from` to house `to`: to itself it sends none.
     fn word(&mut self, from: u8, to: u8) -> bool
-        ensures { λ r. ⌜ Along r (λ n w. wordTo n from to w) (now (self .entry)) (now (self .exit)) ⌝ }
+        ensures { Along result (λ n w. word_to n from to w) self.old self.new }
     {
         if from == to {
             return true;
@@ -24,7 +22,7 @@ impl Net {
 
     // A word of one house to each other.
     fn words_of(&mut self, from: u8) -> bool
-        ensures { λ r. ⌜ Along r (λ n w. each n (λ j u. wordTo n from j u) n w) (now (self .entry)) (now (self .exit)) ⌝ }
+        ensures { Along result (λ n w. each n (λ j u. word_to n from j u) n w) self.old self.new }
     {
         let count = self.count();
         for to in 0..count {
@@ -37,7 +35,7 @@ impl Net {
 
     // Each house tells each other what it holds of it.
     fn words(&mut self) -> bool
-        ensures { λ r. ⌜ Along r (λ n w. words n w) (now (self .entry)) (now (self .exit)) ⌝ }
+        ensures { Along result (λ n w. words n w) self.old self.new }
     {
         let count = self.count();
         for from in 0..count {
@@ -50,7 +48,7 @@ impl Net {
 
     // All houses join a census that is new to all.
     fn join_all(&mut self) -> bool
-        ensures { λ r. ⌜ Along r (λ n w. joins n (above n w) w) (now (self .entry)) (now (self .exit)) ⌝ }
+        ensures { Along result (λ n w. joins n (above n w) w) self.old self.new }
     {
         let census = above(&self.houses);
         self.calling_each(Call::Join { census })
@@ -58,14 +56,14 @@ impl Net {
 
     // How many lines were newly marked in all houses.
     fn marked(&self) -> u128
-        ensures { λ r. ⌜ r ≡ tallies (count (now (self .entry))) (world (now (self .entry))) ⌝ }
+        ensures { result ≡ tallies (count self.now) (world self.now) }
     {
         tallies(&self.houses)
     }
 
     // Each house tells what it uses, until nothing is newly marked.
     fn passes(&mut self) -> bool
-        ensures { λ r. ⌜ Along r (λ n w. passes (2048 * n + 1) n w) (now (self .entry)) (now (self .exit)) ⌝ }
+        ensures { Along result (λ n w. passes (2048 * n + 1) n w) self.old self.new }
     {
         let mut left = 2048 * (self.count() as u32) + 1;
         while left > 0 {
@@ -83,7 +81,7 @@ impl Net {
 
     // The census is made complete: what is used is told, and two rounds find it so.
     fn complete(&mut self) -> bool
-        ensures { λ r. ⌜ Along r (λ n w. completing n w) (now (self .entry)) (now (self .exit)) ⌝ }
+        ensures { Along result (λ n w. completing n w) self.old self.new }
     {
         if !self.passes() {
             return false;
@@ -98,9 +96,9 @@ impl Net {
 impl Net {
     // All that does not matter is freed: what is left is exactly what matters.
     pub fn settle(&mut self) -> Settled
-        ensures ends { λ r. ⌜ Ends r (now (self .entry)) (now (self .exit)) ⌝ }
-        ensures count { λ _. ⌜ count (now (self .exit)) ≡ count (now (self .entry)) ⌝ }
-        ensures promise { λ _. ⌜ Promised (now (self .exit)) ⌝ }
+        ensures ends { Ends result self.old self.new }
+        ensures count { count self.new ≡ count self.old }
+        ensures promise { Promised self.new }
     {
         if above(&self.houses) > 4294967295 {
             return Settled::OutOfCensuses;

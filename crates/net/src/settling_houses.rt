@@ -1,13 +1,12 @@
-ghost use mathlib.Core.Path.{_≡_};
-ghost use mathlib.Core.List.{[]};
-ghost use lib.ListN.{length};
-ghost use Rattle·play.specs.Settle.{above, tallies};
-ghost use Rattle·net·specs.Worlds.{worldOf};
+ghost use Rattle.std.specs.Prelude.{◌≡◌, [], length};
+ghost use Rattle.play.specs.Settle.{above, tallies};
+ghost use Rattle.net.specs.Worlds.{world_of};
+
 use store::Store;
 
 // How many lines were newly marked in all houses.
 pub(crate) fn tallies(houses: &[Store]) -> u128
-    ensures { λ r. ⌜ r ≡ tallies (length (now (houses .entry))) (worldOf (now (houses .entry)) []) ⌝ }
+    ensures { result ≡ tallies (length houses.now) (world_of houses.now []) }
 {
     let mut sum = 0;
     for i in 0..houses.len() {
@@ -18,7 +17,7 @@ pub(crate) fn tallies(houses: &[Store]) -> u128
 
 // A census above those of all houses.
 pub(crate) fn above(houses: &[Store]) -> u64
-    ensures { λ r. ⌜ r ≡ above (length (now (houses .entry))) (worldOf (now (houses .entry)) []) ⌝ }
+    ensures { result ≡ above (length houses.now) (world_of houses.now []) }
 {
     let mut census: u64 = 0;
     for i in 0..houses.len() {

@@ -1,55 +1,44 @@
 -- How many references a house can have: a word counts them in two bytes.
-use mathlib.Core.Path.{_≡_, sym, ap, _∙_}
-use mathlib.Core.Bool.{Bool, cond}
-use mathlib.Core.List.{List, [], _∷_, _++_}
-use Prim.Native.Nat.{ℕ, suc, _+_, _*_, _≤_}
-use native.Mathlib.Omega.{arith}
-use lib.Dec.{eqb}
-use lib.ListN.{length}
-use Rattle·std.proofs.shelf.Lists.{length-append, length-map, length-take}
-use Rattle·std.proofs.shelf.Tests.{cond-both}
-use Rattle·std.specs.Of.Vec.{vec-items}
-use Rattle·std.specs.Vec.{made}
-use Rattle·std.specs.declared.alloc.AllocError.{AllocError}
-use Rattle·std.specs.declared.alloc.Global.{Global}
-use Rattle·std.specs.declared.result.Result.{Result}
-use Rattle·std.specs.declared.result.Result.the-variants.{Ok, Err}
-use Rattle·std.specs.declared.vec.Vec.{Vec}
-use Rattle·wire.specs.declared.names.Name.{Name}
-use Rattle·wire.specs.Names.{home}
-use Rattle·tables.specs.Met.{everywhere}
-use Rattle·tables.specs.Model.{added}
-use Rattle·tables.specs.Shown.{fieldNames, number, numbers, objectsOf}
-use Rattle·tables.specs.declared.object.Object.{Object}
-use Rattle·tables.proofs.Places.{length-added}
-use Rattle·objects.specs.Calls.{heapOf}
-use Rattle·objects.specs.declared.store.Objects.{Objects}
-use Rattle·rules.specs.Executed.{sortedBy, referencesOf}
-use Rattle·node·proofs.Bytes.{numbers-long}
+use Rattle.std.proofs.Common.{◌≡◌, ℕ, suc, ◌+◌, ◌*◌, ◌≤◌, Bool, cond, eqb, List, [], ◌∷◌, ◌++◌, length, IfOk, Ok, Err, vec_items, Result, Vec, sym, ap, ◌∙◌, arith}
+use Rattle.std.proofs.lemmas.List.{length-append, length-map, length-take}
+use Rattle.std.proofs.lemmas.Bool.{cond_both}
+use Rattle.std.specs.declared.alloc.AllocError.{AllocError}
+use Rattle.std.specs.declared.alloc.Global.{Global}
+use Rattle.wire.specs.declared.names.Name.{Name}
+use Rattle.wire.specs.Names.{home}
+use Rattle.tables.specs.Met.{everywhere}
+use Rattle.tables.specs.Model.{added}
+use Rattle.tables.specs.Shown.{field_names, number, numbers, objects_of}
+use Rattle.tables.specs.declared.object.Object.{Object}
+use Rattle.tables.proofs.Places.{length_added}
+use Rattle.objects.specs.Calls.{heap_of}
+use Rattle.objects.specs.declared.store.Objects.{Objects}
+use Rattle.rules.specs.Executed.{sorted_by, references_of}
+use Rattle.node.proofs.Bytes.{numbers_long}
 
-sorted-few : (p : ℕ → Bool) (os : List ℕ) → length (sortedBy p os) ≤ length os
-unfolding sortedBy
-sorted-few p [] = omega arith
-sorted-few p (o ∷ os) =
-    let rest : length (sortedBy p os) ≤ length os = sorted-few p os in
-    cond-both (p o) (added o (sortedBy p os)) (sortedBy p os) (λ l. length l ≤ suc (length os)) (λ _. omega (arith, length-added o (sortedBy p os), rest)) (λ _. omega (arith, rest))
+sorted_few : (p : ℕ → Bool) (os : List ℕ) → length (sorted_by p os) ≤ length os
+unfolding sorted_by
+sorted_few p [] = omega arith
+sorted_few p (o ∷ os) =
+    let rest : length (sorted_by p os) ≤ length os = sorted_few p os in
+    cond_both (p o) (added o (sorted_by p os)) (sorted_by p os) (λ l. length l ≤ suc (length os)) (λ _. omega (arith, length_added o (sorted_by p os), rest)) (λ _. omega (arith, rest))
 
-fields-few : (x : Object) → length (numbers (fieldNames x)) ≤ 8
-fields-few x = omega (arith, length-map (fieldNames x) number, length-take (x .count) (x .slots), x .few)
+fields_few : (x : Object) → length (numbers (field_names x)) ≤ 8
+fields_few x = omega (arith, length-map (field_names x) number, length-take x.count x.slots, x.few)
 
-everywhere-few : (xs : List Object) → length (everywhere (objectsOf xs)) ≤ 8 * length xs
-everywhere-few [] = omega arith
-everywhere-few (x ∷ xs) = omega (arith, length-append (numbers (fieldNames x)) (everywhere (objectsOf xs)), fields-few x, everywhere-few xs)
+everywhere_few : (xs : List Object) → length (everywhere (objects_of xs)) ≤ 8 * length xs
+everywhere_few [] = omega arith
+everywhere_few (x ∷ xs) = omega (arith, length-append (numbers (field_names x)) (everywhere (objects_of xs)), fields_few x, everywhere_few xs)
 
 -- 256 roots, and 1,024 objects with 8 fields each
-references-few : (j : ℕ) (t : Objects) → length (referencesOf j (heapOf t)) ≤ 8448
-references-few j t =
-    let xs : List ℕ = numbers (vec-items (t .roots)) in
-    let ys : List ℕ = everywhere (objectsOf (vec-items (t .objects))) in
-    omega (arith, sorted-few (λ o. eqb (home o) j) (xs ++ ys), length-append xs ys, numbers-long (vec-items (t .roots)), everywhere-few (vec-items (t .objects)), t .objects .ok .0, t .roots .ok .0, t .few, t .fewRoots)
+references_few : (j : ℕ) (t : Objects) → length (references_of j (heap_of t)) ≤ 8448
+references_few j t =
+    let xs : List ℕ = numbers (vec_items t.roots) in
+    let ys : List ℕ = everywhere (objects_of (vec_items t.objects)) in
+    omega (arith, sorted_few (λ o. eqb (home o) j) (xs ++ ys), length-append xs ys, numbers_long (vec_items t.roots), everywhere_few (vec_items t.objects), t.objects.ok.0, t.roots.ok.0, t.few, t.fewRoots)
 
-pub found-few : (r : Result (Vec Name Global) AllocError) (j : ℕ) (t : Objects) → made r (λ v. numbers (vec-items v) ≡ referencesOf j (heapOf t)) → made r (λ v. length (vec-items v) ≤ 8448)
-found-few (Ok v) j t e =
-    let same : length (vec-items v) ≡ length (referencesOf j (heapOf t)) = sym (numbers-long (vec-items v)) ∙ ap length e in
-    omega (arith, same, references-few j t)
-found-few (Err e) j t f = tt
+pub found_few : (r : Result (Vec Name Global) AllocError) (j : ℕ) (t : Objects) → IfOk r (λ v. numbers (vec_items v) ≡ references_of j (heap_of t)) → IfOk r (λ v. length (vec_items v) ≤ 8448)
+found_few (Ok v) j t e =
+    let same : length (vec_items v) ≡ length (references_of j (heap_of t)) = sym (numbers_long (vec_items v)) ∙ ap length e in
+    omega (arith, same, references_few j t)
+found_few (Err e) j t f = tt

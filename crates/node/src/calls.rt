@@ -1,21 +1,18 @@
-ghost use mathlib.Core.Path.{_≡_};
-ghost use Rattle·rules.specs.Step.{make, link, unlink, load, drop, ask};
-ghost use Rattle·node·specs.Shown.{houseOf, Steps, quieted};
+ghost use Rattle.std.specs.Prelude.{◌≡◌};
+ghost use Rattle.rules.specs.Step.{make, link, unlink, load, drop, ask};
+ghost use Rattle.node.specs.Shown.{house_of, Steps, quieted};
+
 use crate::head::Head;
-use crate::sent::Answer;
-use crate::sent::Sent;
+use crate::sent::{Answer, Sent};
 use lines::Lines;
 use objects::Objects;
-use wire::House;
-use wire::Message;
-use wire::Name;
-use wire::Refusal;
+use wire::{House, Message, Name, Refusal};
 
 // A call that sends nothing.
-pub(crate) fn quiet(result: Result<(), Refusal>) -> Answer
-    ensures { λ r. ⌜ r ≡ quieted result ⌝ }
+pub(crate) fn quiet(res: Result<(), Refusal>) -> Answer
+    ensures { result ≡ quieted res }
 {
-    match result {
+    match res {
         Ok(()) => Answer::Sends(Sent::Nothing),
         Err(refusal) => Answer::Refused(refusal),
     }
@@ -23,7 +20,7 @@ pub(crate) fn quiet(result: Result<(), Refusal>) -> Answer
 
 impl Head {
     pub(crate) fn make(self, objects: &mut Objects, list: &Lines, number: u64) -> (Head, Answer)
-        ensures { λ r. ⌜ Steps r (make number) (houseOf self (now (objects .entry)) (now (list .entry))) (now (objects .exit)) (now (list .entry)) ⌝ }
+        ensures { Steps result (make number) (house_of self objects.old list.now) objects.new list.now }
     {
         match objects.make(number) {
             Ok(_) => (self, Answer::Sends(Sent::Nothing)),
@@ -38,7 +35,7 @@ impl Head {
         object: Name,
         target: Name,
     ) -> (Head, Answer)
-        ensures { λ r. ⌜ Steps r (link (object .0) (target .0)) (houseOf self (now (objects .entry)) (now (list .entry))) (now (objects .exit)) (now (list .entry)) ⌝ }
+        ensures { Steps result (link object.0 target.0) (house_of self objects.old list.now) objects.new list.now }
     {
         let answer = quiet(objects.link(object, target));
         (self, answer)
@@ -51,7 +48,7 @@ impl Head {
         object: Name,
         target: Name,
     ) -> (Head, Answer)
-        ensures { λ r. ⌜ Steps r (unlink (object .0) (target .0)) (houseOf self (now (objects .entry)) (now (list .entry))) (now (objects .exit)) (now (list .entry)) ⌝ }
+        ensures { Steps result (unlink object.0 target.0) (house_of self objects.old list.now) objects.new list.now }
     {
         let answer = quiet(objects.unlink(object, target));
         (self, answer)
@@ -64,14 +61,14 @@ impl Head {
         object: Name,
         target: Name,
     ) -> (Head, Answer)
-        ensures { λ r. ⌜ Steps r (load (object .0) (target .0)) (houseOf self (now (objects .entry)) (now (list .entry))) (now (objects .exit)) (now (list .entry)) ⌝ }
+        ensures { Steps result (load object.0 target.0) (house_of self objects.old list.now) objects.new list.now }
     {
         let answer = quiet(objects.load(object, target));
         (self, answer)
     }
 
     pub(crate) fn release(self, objects: &mut Objects, list: &Lines, object: Name) -> (Head, Answer)
-        ensures { λ r. ⌜ Steps r (drop (object .0)) (houseOf self (now (objects .entry)) (now (list .entry))) (now (objects .exit)) (now (list .entry)) ⌝ }
+        ensures { Steps result (drop object.0) (house_of self objects.old list.now) objects.new list.now }
     {
         let answer = quiet(objects.release(object));
         (self, answer)
@@ -85,7 +82,7 @@ impl Head {
         object: Name,
         to: House,
     ) -> (Head, Answer)
-        ensures { λ r. ⌜ Steps r (ask (object .0) (to .0)) (houseOf self (now (objects .entry)) (now (list .entry))) (now (objects .entry)) (now (list .entry)) ⌝ }
+        ensures { Steps result (ask object.0 to.0) (house_of self objects.now list.now) objects.now list.now }
     {
         if !object.is_well_formed(objects.houses()) || to.0 >= objects.houses() {
             return (self, Answer::Refused(Refusal::Malformed));

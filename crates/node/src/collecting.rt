@@ -1,34 +1,22 @@
-ghost use mathlib.Core.Path.{_≡_};
-ghost use mathlib.Core.Bool.{true};
-ghost use Prim.Native.Nat.{_≤_};
-ghost use lib.ListN.{length};
-ghost use Rattle·std.specs.Of.Vec.{vec-items};
-ghost use Rattle·std.specs.Vec.{made};
-ghost use Rattle·tables.specs.Shown.{numbers};
-ghost use Rattle·objects.specs.Calls.{heapOf};
-ghost use Rattle·lines.specs.Lists.{Lent};
-ghost use Rattle·rules.specs.Executed.{collected, inUse, referencesOf};
-ghost use Rattle·rules.specs.Step.{used, caughtUp, polled, repliesTo, bytesOf, collect, word, join, tell};
-ghost use Rattle·node·specs.Shown.{houseOf, Gives, Steps, Tied};
+ghost use Rattle.std.specs.Prelude.{◌≡◌, ◌≤◌, true, length, IfOk};
+ghost use Rattle.tables.specs.Shown.{numbers};
+ghost use Rattle.objects.specs.Calls.{heap_of};
+ghost use Rattle.lines.specs.Lists.{Lent};
+ghost use Rattle.rules.specs.Executed.{collected, names_in_use, references_of};
+ghost use Rattle.rules.specs.Step.{used, caught_up, polled, replies_to, bytes_of, collect, word, join, tell};
+ghost use Rattle.node.specs.Shown.{house_of, Gives, Steps, Tied};
+
 use crate::head::Head;
-use crate::sent::Answer;
-use crate::sent::Sent;
+use crate::sent::{Answer, Sent};
 use lines::Lines;
 use objects::Objects;
-use std::alloc::AllocError;
-use std::alloc::Global;
-use wire::Census;
-use wire::House;
-use wire::Message;
-use wire::Name;
-use wire::Part;
-use wire::Refusal;
-use wire::RoundNumber;
+use std::alloc::{AllocError, Global};
+use wire::{Census, House, Message, Name, Part, Refusal, RoundNumber};
 
 impl Head {
     // The objects that are met neither from the roots nor from the list are freed.
     pub(crate) fn collect(self, objects: &mut Objects, list: &Lines) -> (Head, Answer)
-        ensures { λ r. ⌜ Steps r collect (houseOf self (now (objects .entry)) (now (list .entry))) (now (objects .exit)) (now (list .entry)) ⌝ }
+        ensures { Steps result collect (house_of self objects.old list.now) objects.new list.now }
     {
         let mut names = [Name(0); 2048];
         let count = list.objects(&mut names);
@@ -38,8 +26,8 @@ impl Head {
 
     // A census of this number is joined.
     pub(crate) fn join(self, objects: &Objects, list: &mut Lines, census: u64) -> (Head, Answer)
-        ensures step { λ r. ⌜ Steps r (join census) (houseOf self (now (objects .entry)) (now (list .entry))) (now (objects .entry)) (now (list .exit)) ⌝ }
-        ensures lent { λ _. ⌜ Lent (now (list .entry)) (now (list .exit)) ⌝ }
+        ensures step { Steps result (join census) (house_of self objects.now list.old) objects.now list.new }
+        ensures lent { Lent list.old list.new }
     {
         if census <= self.standing.census().0 as u64 || census > 4294967295 {
             return (self, Answer::Refused(Refusal::OutOfNumbers));
@@ -50,7 +38,7 @@ impl Head {
 
     // The far references in use.
     fn in_use(&self, objects: &Objects, list: &Lines) -> Result<Vec<Name>, AllocError>
-        ensures { λ r. ⌜ made r (λ v. numbers (vec-items v) ≡ used (houseOf (now (self .entry)) (now (objects .entry)) (now (list .entry)))) ⌝ }
+        ensures { IfOk result (λ v. numbers v.items ≡ used (house_of self.now objects.now list.now)) }
     {
         let mut names = [Name(0); 2048];
         let count = list.objects_in(self.standing.census(), &mut names);
@@ -64,7 +52,7 @@ impl Head {
         list: &Lines,
         census: Census,
     ) -> Result<Vec<Name>, AllocError>
-        ensures { λ r. ⌜ made r (λ v. numbers (vec-items v) ≡ used (caughtUp (census .0) (houseOf (now (self .entry)) (now (objects .entry)) (now (list .entry))))) ⌝ }
+        ensures { IfOk result (λ v. numbers v.items ≡ used (caught_up census.0 (house_of self.now objects.now list.now))) }
     {
         if census.0 <= self.standing.census().0 {
             return self.in_use(objects, list);
@@ -76,8 +64,8 @@ impl Head {
 
     // All that is in use of other houses is told to them, until they answer.
     pub(crate) fn tell(self, objects: &Objects, list: &Lines) -> (Head, Answer)
-        requires { ⌜ Tied (now objects) (now list) ⌝ }
-        ensures { λ r. ⌜ Steps r tell (houseOf self (now (objects .entry)) (now (list .entry))) (now (objects .entry)) (now (list .entry)) ⌝ }
+        requires { Tied objects.now list.now }
+        ensures { Steps result tell (house_of self objects.now list.now) objects.now list.now }
     {
         let in_use = match self.in_use(objects, list) {
             Ok(names) => names,
@@ -103,9 +91,9 @@ impl Head {
         census: Census,
         number: RoundNumber,
     ) -> (Head, Answer)
-        requires { ⌜ Tied (now objects) (now list) ⌝ }
-        ensures step { λ r. ⌜ Gives true (r .1) (polled (census .0) (number .0) (houseOf self (now (objects .entry)) (now (list .entry)))) (houseOf self (now (objects .entry)) (now (list .entry))) (houseOf (r .0) (now (objects .entry)) (now (list .exit))) ⌝ }
-        ensures lent { λ _. ⌜ Lent (now (list .entry)) (now (list .exit)) ⌝ }
+        requires { Tied objects.now list.old }
+        ensures step { Gives true result.1 (polled census.0 number.0 (house_of self objects.now list.old)) (house_of self objects.now list.old) (house_of result.0 objects.now list.new) }
+        ensures lent { Lent list.old list.new }
     {
         if census.0 < self.standing.census().0 {
             return (self, Answer::Refused(Refusal::OtherCensus));
@@ -125,7 +113,7 @@ impl Head {
 
     // House `to` is told which of its objects this house has, and how far it has taken what was handed to it.
     pub(crate) fn word(self, objects: &Objects, list: &Lines, to: House) -> (Head, Answer)
-        ensures { λ r. ⌜ Steps r (word (to .0)) (houseOf self (now (objects .entry)) (now (list .entry))) (now (objects .entry)) (now (list .entry)) ⌝ }
+        ensures { Steps result (word to.0) (house_of self objects.now list.now) objects.now list.now }
     {
         if to.0 >= objects.houses() {
             return (self, Answer::Refused(Refusal::Malformed));
@@ -155,29 +143,29 @@ impl Head {
 
 // What is met neither from the roots nor from these names is freed.
 fn collect_from(objects: &mut Objects, names: &[Name])
-    ensures { λ _. ⌜ heapOf (now (objects .exit)) ≡ collected (numbers (now (names .entry))) (heapOf (now (objects .entry))) ⌝ }
+    ensures { heap_of objects.new ≡ collected (numbers names.now) (heap_of objects.old) }
 {
     objects.collect(names);
 }
 
 // The far references that are met from the roots and these names.
 fn met_from(heap: Global, objects: &Objects, names: &[Name]) -> Result<Vec<Name>, AllocError>
-    ensures { λ r. ⌜ made r (λ v. numbers (vec-items v) ≡ inUse (numbers (now (names .entry))) (heapOf (now (objects .entry)))) ⌝ }
+    ensures { IfOk result (λ v. numbers v.items ≡ names_in_use (numbers names.now) (heap_of objects.now)) }
 {
     objects.in_use(heap, names)
 }
 
 // The references to objects of a house: a word can count them.
 fn references(heap: Global, objects: &Objects, house: House) -> Result<Vec<Name>, AllocError>
-    ensures few { λ r. ⌜ made r (λ v. length (vec-items v) ≤ 8448) ⌝ }
-    ensures names { λ r. ⌜ made r (λ v. numbers (vec-items v) ≡ referencesOf (house .0) (heapOf (now (objects .entry)))) ⌝ }
+    ensures few { IfOk result (λ v. length v.items ≤ 8448) }
+    ensures names { IfOk result (λ v. numbers v.items ≡ references_of house.0 (heap_of objects.now)) }
 {
     objects.references_of(heap, house)
 }
 
 // Names as a word has them, four bytes each.
 fn name_bytes(heap: Global, names: &[Name]) -> Result<Vec<u8>, AllocError>
-    ensures { λ r. ⌜ made r (λ v. vec-items v ≡ bytesOf (numbers (now (names .entry)))) ⌝ }
+    ensures { IfOk result (λ v. v.items ≡ bytes_of (numbers names.now)) }
 {
     let mut out = Vec::new(heap);
     for name in names {

@@ -1,42 +1,40 @@
-ghost use mathlib.Core.Path.{_≡_};
-ghost use Rattle·lines.specs.Lists.{Lent};
-ghost use Rattle·lines.specs.Stamping.{unstamped};
-ghost use Rattle·census.specs.Model.{fresh};
-ghost use Rattle·census.specs.Standings.{partOf};
-ghost use Rattle·rounds.specs.Model.{idle};
-ghost use Rattle·rounds.specs.Shown.{deskOf};
-ghost use Rattle·rules.specs.Laws.{Lawful};
-ghost use Rattle·rules.specs.Step.{eventOf};
-ghost use Rattle·node·specs.Events.{eventIn};
-ghost use Rattle·node·specs.Shown.{houseOf, Steps, Tied};
+ghost use Rattle.std.specs.Prelude.{◌≡◌};
+ghost use Rattle.lines.specs.Lists.{Lent};
+ghost use Rattle.lines.specs.Stamping.{unstamped};
+ghost use Rattle.census.specs.Model.{fresh};
+ghost use Rattle.census.specs.Standings.{part_of};
+ghost use Rattle.rounds.specs.Model.{idle};
+ghost use Rattle.rounds.specs.Shown.{desk_of};
+ghost use Rattle.rules.specs.Laws.{Lawful};
+ghost use Rattle.rules.specs.Step.{event_of};
+ghost use Rattle.node.specs.Events.{event_in};
+ghost use Rattle.node.specs.Shown.{house_of, Steps, Tied};
+
 use crate::event::Event;
 use crate::head::Head;
 use crate::sent::Answer;
 use census::Standing;
-use lines::Lines;
-use lines::Stamps;
+use lines::{Lines, Stamps};
 use objects::Objects;
 use rounds::Desk;
 use std::alloc::Global;
-use wire::Call;
-use wire::Census;
-use wire::Tally;
+use wire::{Call, Census, Tally};
 
 impl Head {
     // Nothing given, seen, heard or told yet.
     pub fn new(heap: Global) -> Head
-        ensures stamps { λ r. ⌜ r .stamps ≡ unstamped ⌝ }
-        ensures part { λ r. ⌜ partOf (r .standing) ≡ fresh 0 ⌝ }
-        ensures desk { λ r. ⌜ deskOf (r .desk) ≡ idle ⌝ }
-        ensures lawful { λ _. ⌜ Lawful ⌝ }
+        ensures stamps { result.stamps ≡ unstamped }
+        ensures part { part_of result.standing ≡ fresh 0 }
+        ensures desk { desk_of result.desk ≡ idle }
+        ensures lawful { Lawful }
     {
         Head::empty(heap)
     }
 
     fn empty(heap: Global) -> Head
-        ensures stamps { λ r. ⌜ r .stamps ≡ unstamped ⌝ }
-        ensures part { λ r. ⌜ partOf (r .standing) ≡ fresh 0 ⌝ }
-        ensures desk { λ r. ⌜ deskOf (r .desk) ≡ idle ⌝ }
+        ensures stamps { result.stamps ≡ unstamped }
+        ensures part { part_of result.standing ≡ fresh 0 }
+        ensures desk { desk_of result.desk ≡ idle }
     {
         Head {
             heap,
@@ -48,23 +46,23 @@ impl Head {
 
     // The census that the house is in.
     pub fn census(&self) -> Census
-        ensures { λ r. ⌜ r .0 ≡ partOf (now (self .entry) .standing) .census ⌝ }
+        ensures { result.0 ≡ (part_of self.now.standing).census }
     {
         self.standing.census()
     }
 
     // How many of its lines were newly marked in that census.
     pub fn tally(&self) -> Tally
-        ensures { λ r. ⌜ r .0 ≡ partOf (now (self .entry) .standing) .tally ⌝ }
+        ensures { result.0 ≡ (part_of self.now.standing).tally }
     {
         self.standing.tally()
     }
 
     // Whatever happens at the house: its answer, and all that it becomes.
     pub fn step(self, objects: &mut Objects, list: &mut Lines, event: Event<'_>) -> (Head, Answer)
-        requires { ⌜ Tied (now objects) (now list) ⌝ }
-        ensures step { λ r. ⌜ Steps r (eventIn (event .entry)) (houseOf self (now (objects .entry)) (now (list .entry))) (now (objects .exit)) (now (list .exit)) ⌝ }
-        ensures lent { λ _. ⌜ Lent (now (list .entry)) (now (list .exit)) ⌝ }
+        requires { Tied objects.old list.old }
+        ensures step { Steps result (event_in event.entry) (house_of self objects.old list.old) objects.new list.new }
+        ensures lent { Lent list.old list.new }
     {
         match event {
             Event::Call(call) => self.call(objects, list, call),
@@ -74,9 +72,9 @@ impl Head {
 
     // A call of the house's programs, or of its collector.
     fn call(self, objects: &mut Objects, list: &mut Lines, call: Call) -> (Head, Answer)
-        requires { ⌜ Tied (now objects) (now list) ⌝ }
-        ensures step { λ r. ⌜ Steps r (eventOf call) (houseOf self (now (objects .entry)) (now (list .entry))) (now (objects .exit)) (now (list .exit)) ⌝ }
-        ensures lent { λ _. ⌜ Lent (now (list .entry)) (now (list .exit)) ⌝ }
+        requires { Tied objects.old list.old }
+        ensures step { Steps result (event_of call) (house_of self objects.old list.old) objects.new list.new }
+        ensures lent { Lent list.old list.new }
     {
         match call {
             Call::Make { number } => self.make(objects, list, number),

@@ -13,6 +13,4 @@ mod sent;
 pub use event::Event;
 pub use head::Head;
 pub use recipients::goes_to;
-pub use sent::Answer;
-pub use sent::Recipient;
-pub use sent::Sent;
+pub use sent::{Answer, Recipient, Sent};

@@ -1,37 +1,29 @@
-ghost use mathlib.Core.Path.{_≡_};
-ghost use mathlib.Core.Bool.{true, false, cond};
-ghost use Prim.Native.Nat.{_<_};
-ghost use lib.Dec.{ltb};
-ghost use Rattle·wire.specs.Format.{numbers, rising};
-ghost use Rattle·lines.specs.Listed.{joined};
-ghost use Rattle·lines.specs.Lists.{lines, Lent};
-ghost use Rattle·lines.specs.Stamping.{heardFrom, seenFrom, withSeen};
-ghost use Rattle·census.specs.Model.{fresh, stirring, counting};
-ghost use Rattle·census.specs.Standings.{partOf, newly};
-ghost use Rattle·rounds.specs.Model.{idle};
-ghost use Rattle·rounds.specs.Shown.{deskOf};
-ghost use Rattle·rules.specs.Step.{authorised, gives, handed, takes, hears, told, settles, sweeps};
-ghost use Rattle·node·specs.Shown.{houseOf, Gives, Tied};
+ghost use Rattle.std.specs.Prelude.{◌≡◌, ◌<◌, true, false, if◌then◌else◌, nat_lt};
+ghost use Rattle.wire.specs.Format.{numbers, rising};
+ghost use Rattle.lines.specs.Listed.{joined};
+ghost use Rattle.lines.specs.Lists.{lines, Lent};
+ghost use Rattle.lines.specs.Stamping.{heard_from, seen_from, with_seen};
+ghost use Rattle.census.specs.Model.{fresh, stirring, counting};
+ghost use Rattle.census.specs.Standings.{part_of, newly};
+ghost use Rattle.rounds.specs.Model.{idle};
+ghost use Rattle.rounds.specs.Shown.{desk_of};
+ghost use Rattle.rules.specs.Step.{authorised, gives, handed, takes, hears, told, settles, sweeps};
+ghost use Rattle.node.specs.Shown.{house_of, Gives, Tied};
+
 use crate::calls::quiet;
 use crate::head::Head;
-use crate::sent::Answer;
-use crate::sent::Sent;
+use crate::sent::{Answer, Sent};
 use census::Marked;
 use lines::Lines;
 use objects::Objects;
 use rounds::Desk;
-use wire::Census;
-use wire::House;
-use wire::Message;
-use wire::Name;
-use wire::Refusal;
-use wire::Stamp;
+use wire::{Census, House, Message, Name, Refusal, Stamp};
 
 impl Head {
     // Whether `by` may have the object handed on: it is the home itself and has it as a root, or holds it by a line of the home's census.
     fn authorises(&self, objects: &Objects, list: &Lines, object: Name, by: House) -> bool
-        requires { ⌜ Tied (now objects) (now list) ⌝ }
-        ensures { λ r. ⌜ r ≡ authorised (object .0) (by .0) (houseOf (now (self .entry)) (now (objects .entry)) (now (list .entry))) ⌝ }
+        requires { Tied objects.now list.now }
+        ensures { result ≡ authorised object.0 by.0 (house_of self.now objects.now list.now) }
     {
         (by.0 == list.home.0 && objects.is_root(object))
             || list.is_held(object, by, self.standing.census())
@@ -45,9 +37,9 @@ impl Head {
         object: Name,
         to: House,
     ) -> (Head, Answer)
-        requires { ⌜ Tied (now objects) (now list) ⌝ }
-        ensures step { λ r. ⌜ Gives false (r .1) (gives (object .0) (to .0) (houseOf self (now (objects .entry)) (now (list .entry)))) (houseOf self (now (objects .entry)) (now (list .entry))) (houseOf (r .0) (now (objects .entry)) (now (list .exit))) ⌝ }
-        ensures lent { λ _. ⌜ Lent (now (list .entry)) (now (list .exit)) ⌝ }
+        requires { Tied objects.now list.old }
+        ensures step { Gives false result.1 (gives object.0 to.0 (house_of self objects.now list.old)) (house_of self objects.now list.old) (house_of result.0 objects.now list.new) }
+        ensures lent { Lent list.old list.new }
     {
         if !list.has_room(object, to) {
             return (self, Answer::Refused(Refusal::NoRoom));
@@ -75,9 +67,9 @@ impl Head {
         by: House,
         to: House,
     ) -> (Head, Answer)
-        requires { ⌜ Tied (now objects) (now list) ⌝ }
-        ensures step { λ r. ⌜ Gives false (r .1) (handed (object .0) (by .0) (to .0) (houseOf self (now (objects .entry)) (now (list .entry)))) (houseOf self (now (objects .entry)) (now (list .entry))) (houseOf (r .0) (now (objects .exit)) (now (list .exit))) ⌝ }
-        ensures lent { λ _. ⌜ Lent (now (list .entry)) (now (list .exit)) ⌝ }
+        requires { Tied objects.old list.old }
+        ensures step { Gives false result.1 (handed object.0 by.0 to.0 (house_of self objects.old list.old)) (house_of self objects.old list.old) (house_of result.0 objects.new list.new) }
+        ensures lent { Lent list.old list.new }
     {
         if object.home().0 != list.home.0 {
             return (self, Answer::Refused(Refusal::Misdelivered));
@@ -104,8 +96,8 @@ impl Head {
         to: House,
         stamp: Stamp,
     ) -> (Head, Answer)
-        requires { ⌜ Tied (now objects) (now list) ⌝ }
-        ensures { λ r. ⌜ Gives false (r .1) (takes (object .0) (to .0) (stamp .0) (houseOf self (now (objects .entry)) (now (list .entry)))) (houseOf self (now (objects .entry)) (now (list .entry))) (houseOf (r .0) (now (objects .exit)) (now (list .entry))) ⌝ }
+        requires { Tied objects.old list.now }
+        ensures { Gives false result.1 (takes object.0 to.0 stamp.0 (house_of self objects.old list.now)) (house_of self objects.old list.now) (house_of result.0 objects.new list.now) }
     {
         let from = object.home();
         if to.0 != list.home.0 || from.0 == list.home.0 {
@@ -122,11 +114,11 @@ impl Head {
 
     // A reference of house `from` is a root now: its stamp is seen.
     fn seen(mut self, from: House, stamp: Stamp) -> Head
-        requires house { ⌜ from .0 < 16 ⌝ }
-        requires new { ⌜ seenFrom (self .stamps) (from .0) < stamp .0 ⌝ }
-        ensures stamps { λ r. ⌜ r .stamps ≡ withSeen (self .stamps) (from .0) (stamp .0) ⌝ }
-        ensures part { λ r. ⌜ partOf (r .standing) ≡ stirring (partOf (self .standing)) ⌝ }
-        ensures desk { λ r. ⌜ r .desk ≡ self .desk ⌝ }
+        requires house { from.0 < 16 }
+        requires new { seen_from self.stamps from.0 < stamp.0 }
+        ensures stamps { result.stamps ≡ with_seen self.stamps from.0 stamp.0 }
+        ensures part { part_of result.standing ≡ stirring (part_of self.standing) }
+        ensures desk { result.desk ≡ self.desk }
     {
         let _ = self.stamps.see(from, stamp);
         Head {
@@ -145,10 +137,10 @@ impl Head {
         stamp: Stamp,
         part: &[u8],
     ) -> (Head, Answer)
-        requires tied { ⌜ Tied (now objects) (now list) ⌝ }
-        requires rising { ⌜ rising (to .0) 15 (numbers (now part)) ≡ true ⌝ }
-        ensures step { λ r. ⌜ Gives false (r .1) (hears (from .0) (to .0) (stamp .0) (numbers (now (part .entry))) (houseOf self (now (objects .entry)) (now (list .entry)))) (houseOf self (now (objects .entry)) (now (list .entry))) (houseOf (r .0) (now (objects .entry)) (now (list .exit))) ⌝ }
-        ensures lent { λ _. ⌜ Lent (now (list .entry)) (now (list .exit)) ⌝ }
+        requires tied { Tied objects.now list.old }
+        requires rising { rising to.0 15 (numbers part.now) ≡ true }
+        ensures step { Gives false result.1 (hears from.0 to.0 stamp.0 (numbers part.now) (house_of self objects.now list.old)) (house_of self objects.now list.old) (house_of result.0 objects.now list.new) }
+        ensures lent { Lent list.old list.new }
     {
         if to.0 != list.home.0 {
             return (self, Answer::Refused(Refusal::Misdelivered));
@@ -160,11 +152,11 @@ impl Head {
 
     // A census above the own is joined.
     pub(crate) fn catch_up(self, list: &mut Lines, census: Census) -> Head
-        ensures list { λ _. ⌜ lines (now (list .exit)) ≡ cond (ltb (partOf (self .standing) .census) (census .0)) (joined (census .0) (heardFrom (self .stamps)) (lines (now (list .entry)))) (lines (now (list .entry))) ⌝ }
-        ensures stamps { λ r. ⌜ r .stamps ≡ self .stamps ⌝ }
-        ensures part { λ r. ⌜ partOf (r .standing) ≡ cond (ltb (partOf (self .standing) .census) (census .0)) (fresh (census .0)) (partOf (self .standing)) ⌝ }
-        ensures desk { λ r. ⌜ deskOf (r .desk) ≡ cond (ltb (partOf (self .standing) .census) (census .0)) idle (deskOf (self .desk)) ⌝ }
-        ensures lent { λ _. ⌜ Lent (now (list .entry)) (now (list .exit)) ⌝ }
+        ensures list { lines list.new ≡ (if nat_lt (part_of self.standing).census census.0 then joined census.0 (heard_from self.stamps) (lines list.old) else lines list.old) }
+        ensures stamps { result.stamps ≡ self.stamps }
+        ensures part { part_of result.standing ≡ (if nat_lt (part_of self.standing).census census.0 then fresh census.0 else part_of self.standing) }
+        ensures desk { desk_of result.desk ≡ (if nat_lt (part_of self.standing).census census.0 then idle else desk_of self.desk) }
+        ensures lent { Lent list.old list.new }
     {
         if census.0 <= self.standing.census().0 {
             return self;
@@ -187,9 +179,9 @@ impl Head {
         object: Name,
         from: House,
     ) -> (Head, Answer)
-        requires { ⌜ Tied (now objects) (now list) ⌝ }
-        ensures step { λ r. ⌜ Gives false (r .1) (told (census .0) (object .0) (from .0) (houseOf self (now (objects .entry)) (now (list .entry)))) (houseOf self (now (objects .entry)) (now (list .entry))) (houseOf (r .0) (now (objects .entry)) (now (list .exit))) ⌝ }
-        ensures lent { λ _. ⌜ Lent (now (list .entry)) (now (list .exit)) ⌝ }
+        requires { Tied objects.now list.old }
+        ensures step { Gives false result.1 (told census.0 object.0 from.0 (house_of self objects.now list.old)) (house_of self objects.now list.old) (house_of result.0 objects.now list.new) }
+        ensures lent { Lent list.old list.new }
     {
         if object.home().0 != list.home.0 {
             return (self, Answer::Refused(Refusal::Misdelivered));
@@ -212,9 +204,9 @@ impl Head {
     }
 
     fn counted(self, line: Marked) -> Head
-        ensures stamps { λ r. ⌜ r .stamps ≡ self .stamps ⌝ }
-        ensures part { λ r. ⌜ partOf (r .standing) ≡ counting (newly line) (partOf (self .standing)) ⌝ }
-        ensures desk { λ r. ⌜ r .desk ≡ self .desk ⌝ }
+        ensures stamps { result.stamps ≡ self.stamps }
+        ensures part { part_of result.standing ≡ counting (newly line) (part_of self.standing) }
+        ensures desk { result.desk ≡ self.desk }
     {
         Head {
             standing: self.standing.counted(line),
@@ -231,8 +223,8 @@ impl Head {
         object: Name,
         from: House,
     ) -> (Head, Answer)
-        requires { ⌜ Tied (now objects) (now list) ⌝ }
-        ensures { λ r. ⌜ Gives false (r .1) (settles (census .0) (object .0) (from .0) (houseOf self (now (objects .entry)) (now (list .entry)))) (houseOf self (now (objects .entry)) (now (list .entry))) (houseOf (r .0) (now (objects .entry)) (now (list .entry))) ⌝ }
+        requires { Tied objects.now list.now }
+        ensures { Gives false result.1 (settles census.0 object.0 from.0 (house_of self objects.now list.now)) (house_of self objects.now list.now) (house_of result.0 objects.now list.now) }
     {
         if from.0 != list.home.0 {
             return (self, Answer::Refused(Refusal::Misdelivered));
@@ -243,8 +235,8 @@ impl Head {
 
     // The news that a census is complete.
     pub(crate) fn sweep(self, objects: &Objects, list: &mut Lines, census: Census) -> (Head, Answer)
-        ensures step { λ r. ⌜ Gives false (r .1) (sweeps (census .0) (houseOf self (now (objects .entry)) (now (list .entry)))) (houseOf self (now (objects .entry)) (now (list .entry))) (houseOf (r .0) (now (objects .entry)) (now (list .exit))) ⌝ }
-        ensures lent { λ _. ⌜ Lent (now (list .entry)) (now (list .exit)) ⌝ }
+        ensures step { Gives false result.1 (sweeps census.0 (house_of self objects.now list.old)) (house_of self objects.now list.old) (house_of result.0 objects.now list.new) }
+        ensures lent { Lent list.old list.new }
     {
         if census.0 != self.standing.census().0 {
             return (self, Answer::Refused(Refusal::OtherCensus));

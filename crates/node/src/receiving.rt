@@ -1,8 +1,9 @@
-ghost use mathlib.Core.Path.{_≡_};
-ghost use Rattle·wire.specs.Laws.{Rises};
-ghost use Rattle·lines.specs.Lists.{Lent};
-ghost use Rattle·rules.specs.Step.{receives, came};
-ghost use Rattle·node·specs.Shown.{houseOf, Gives, Steps, Tied, isRound};
+ghost use Rattle.std.specs.Prelude.{◌≡◌};
+ghost use Rattle.wire.specs.Laws.{Rises};
+ghost use Rattle.lines.specs.Lists.{Lent};
+ghost use Rattle.rules.specs.Step.{receives, came};
+ghost use Rattle.node.specs.Shown.{house_of, Gives, Steps, Tied, is_round};
+
 use crate::head::Head;
 use crate::sent::Answer;
 use lines::Lines;
@@ -18,10 +19,10 @@ impl Head {
         message: Message,
         part: &[u8],
     ) -> (Head, Answer)
-        requires tied { ⌜ Tied (now objects) (now list) ⌝ }
-        requires rises { ⌜ Rises message (now part) ⌝ }
-        ensures step { λ r. ⌜ Gives (isRound message) (r .1) (receives message (now (part .entry)) (houseOf self (now (objects .entry)) (now (list .entry)))) (houseOf self (now (objects .entry)) (now (list .entry))) (houseOf (r .0) (now (objects .exit)) (now (list .exit))) ⌝ }
-        ensures lent { λ _. ⌜ Lent (now (list .entry)) (now (list .exit)) ⌝ }
+        requires tied { Tied objects.old list.old }
+        requires rises { Rises message part.now }
+        ensures step { Gives (is_round message) result.1 (receives message part.now (house_of self objects.old list.old)) (house_of self objects.old list.old) (house_of result.0 objects.new list.new) }
+        ensures lent { Lent list.old list.new }
     {
         match message {
             Message::Ask { object, by, to } => self.hand(objects, list, object, by, to),
@@ -56,9 +57,9 @@ impl Head {
 
     // These bytes came, whatever they are.
     pub(crate) fn got(self, objects: &mut Objects, list: &mut Lines, bytes: &[u8]) -> (Head, Answer)
-        requires { ⌜ Tied (now objects) (now list) ⌝ }
-        ensures step { λ r. ⌜ Steps r (came (now (bytes .entry))) (houseOf self (now (objects .entry)) (now (list .entry))) (now (objects .exit)) (now (list .exit)) ⌝ }
-        ensures lent { λ _. ⌜ Lent (now (list .entry)) (now (list .exit)) ⌝ }
+        requires { Tied objects.old list.old }
+        ensures step { Steps result (came bytes.now) (house_of self objects.old list.old) objects.new list.new }
+        ensures lent { Lent list.old list.new }
     {
         match wire::read(bytes, list.houses) {
             Ok(read) => self.receive(objects, list, read.message, read.objects),

@@ -1,12 +1,13 @@
-ghost use mathlib.Core.Path.{_≡_};
-ghost use Rattle·node·specs.Recipients.{recipientOf};
+ghost use Rattle.std.specs.Prelude.{◌≡◌};
+ghost use Rattle.node.specs.Recipients.{recipient_of};
+
 use crate::sent::Recipient;
 use census::ASKER;
 use wire::Message;
 
 // Whom a message is for, by what it says.
 pub fn goes_to(message: Message) -> Recipient
-    ensures { λ r. ⌜ r ≡ recipientOf message ⌝ }
+    ensures { result ≡ recipient_of message }
 {
     match message {
         Message::Ask {

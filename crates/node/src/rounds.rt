@@ -1,26 +1,19 @@
-ghost use mathlib.Core.Path.{_≡_};
-ghost use mathlib.Core.Bool.{false};
-ghost use Rattle·rules.specs.Step.{noting, round};
-ghost use Rattle·node·specs.Shown.{houseOf, Gives, Steps, Tied};
+ghost use Rattle.std.specs.Prelude.{◌≡◌, false};
+ghost use Rattle.rules.specs.Step.{noting, round};
+ghost use Rattle.node.specs.Shown.{house_of, Gives, Steps, Tied};
+
 use crate::head::Head;
-use crate::sent::Answer;
-use crate::sent::Sent;
-use census::Mood;
-use census::is_asker;
+use crate::sent::{Answer, Sent};
+use census::{Mood, is_asker};
 use lines::Lines;
 use objects::Objects;
 use rounds::Noted;
-use wire::Census;
-use wire::House;
-use wire::Message;
-use wire::Refusal;
-use wire::RoundNumber;
-use wire::Tally;
+use wire::{Census, House, Message, Refusal, RoundNumber, Tally};
 
 impl Head {
     // The house that asks begins the next round, or asks the present one again.
     pub(crate) fn round(mut self, objects: &Objects, list: &Lines) -> (Head, Answer)
-        ensures { λ r. ⌜ Steps r round (houseOf self (now (objects .entry)) (now (list .entry))) (now (objects .entry)) (now (list .entry)) ⌝ }
+        ensures { Steps result round (house_of self objects.now list.now) objects.now list.now }
     {
         if !is_asker(objects.home()) {
             return (self, Answer::Refused(Refusal::WrongHouse));
@@ -48,8 +41,8 @@ impl Head {
         calm: bool,
         tally: Tally,
     ) -> (Head, Answer)
-        requires { ⌜ Tied (now objects) (now list) ⌝ }
-        ensures { λ r. ⌜ Gives false (r .1) (noting (census .0) (number .0) (from .0) calm (tally .0) (houseOf self (now (objects .entry)) (now (list .entry)))) (houseOf self (now (objects .entry)) (now (list .entry))) (houseOf (r .0) (now (objects .entry)) (now (list .entry))) ⌝ }
+        requires { Tied objects.now list.now }
+        ensures { Gives false result.1 (noting census.0 number.0 from.0 calm tally.0 (house_of self objects.now list.now)) (house_of self objects.now list.now) (house_of result.0 objects.now list.now) }
     {
         if !is_asker(list.home) {
             return (self, Answer::Refused(Refusal::Misdelivered));

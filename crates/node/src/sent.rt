@@ -1,8 +1,4 @@
-use wire::Census;
-use wire::House;
-use wire::Message;
-use wire::Name;
-use wire::Refusal;
+use wire::{Census, House, Message, Name, Refusal};
 
 // The messages that a step sends.
 #[derive(Drop)]

@@ -1,86 +1,79 @@
 -- What a collection leaves.
-use mathlib.Core.Path.{_≡_, refl, sym, ap, subst, _∙_}
-use mathlib.Core.Bool.{Bool, true, false, cond, _&&_, _||_}
-use mathlib.Core.Logic.{_⊎_, inl, inr, ⊎-elim}
-use mathlib.Core.List.{List, [], _∷_, _++_, map}
-use Prim.Native.Nat.{ℕ, zero, suc, _+_, _-_, _<_, _≤_}
-use native.Mathlib.Omega.{arith}
-use lib.Dec.{eqb, ltb}
-use lib.ListN.{length, getD, replicate}
-use Rattle·std.proofs.shelf.Lists.{length-map}
-use Rattle·std.proofs.shelf.Tests.{cases-bool, or-cases, or-left, or-right, cond-true, cond-false, cond-both, and-parts, and-from, both-ways, eqb-true, eq-eqb}
-use Rattle·tables.specs.declared.object.Object.{Object}
-use Rattle·tables.specs.Model as model
-use Rattle·tables.specs.Model.{isIn, present, names, rising, above, isOwn, allOwn}
-use Rattle·tables.specs.Met.{Met, Some, end, kept, left}
-use Rattle·tables.specs.Marks.{keptBy, Marked}
-use Rattle·tables.specs.Shown.{objectOf, objectsOf, namesIn, nameIn}
-use Rattle·tables.proofs.Places.{names-in}
+use Rattle.std.proofs.Common.{◌≡◌, ℕ, zero, suc, ◌+◌, ◌-◌, ◌<◌, ◌≤◌, Bool, true, false, cond, ◌&&◌, ◌||◌, eqb, ltb, ◌⊎◌, List, [], ◌∷◌, ◌++◌, map, length, get_or, replicate, sym, refl, ap, ◌∙◌, subst, inl, inr, ⊎_elim, arith}
+use Rattle.std.proofs.lemmas.List.{length-map}
+use Rattle.std.proofs.lemmas.Bool.{cases_Bool, or_cases, or_left, or_right, cond-true, cond-false, cond_both, and_parts, and_from, both_ways, eqb-true, eq-eqb}
+use Rattle.tables.specs.declared.object.Object.{Object}
+use Rattle.tables.specs.Model as model
+use Rattle.tables.specs.Model.{is_in, present, names, rising, above, is_own, all_own}
+use Rattle.tables.specs.Met.{Met, Some, end, kept, left}
+use Rattle.tables.specs.Marks.{kept_by, Marked}
+use Rattle.tables.specs.Shown.{object_of, objects_of, names_in, name_in}
+use Rattle.tables.proofs.Places.{names_in_place}
 
-pub clear-all : (n k : ℕ) → getD (replicate n false) k false ≡ false
-clear-all zero k = refl
-clear-all (suc n) zero = refl
-clear-all (suc n) (suc k) = clear-all n k
+pub clear_all : (n k : ℕ) → get_or (replicate n false) k false ≡ false
+clear_all zero k = refl
+clear_all (suc n) zero = refl
+clear_all (suc n) (suc k) = clear_all n k
 
 module _ {X Y : Type 0} (f : X → Y) where
-  pub map-kept : (ms : List Bool) (xs : List X) → map f (keptBy ms xs) ≡ keptBy ms (map f xs)
-  map-kept [] xs = refl
-  map-kept (m ∷ ms) [] = refl
-  map-kept (true ∷ ms) (x ∷ xs) = ap (λ r. f x ∷ r) (map-kept ms xs)
-  map-kept (false ∷ ms) (x ∷ xs) = map-kept ms xs
+  pub map_kept : (ms : List Bool) (xs : List X) → map f (kept_by ms xs) ≡ kept_by ms (map f xs)
+  map_kept [] xs = refl
+  map_kept (m ∷ ms) [] = refl
+  map_kept (true ∷ ms) (x ∷ xs) = ap (λ r. f x ∷ r) (map_kept ms xs)
+  map_kept (false ∷ ms) (x ∷ xs) = map_kept ms xs
 
-pub length-kept : {X : Type 0} (ms : List Bool) (xs : List X) → length (keptBy ms xs) ≤ length xs
-length-kept [] xs = omega arith
-length-kept (m ∷ ms) [] = omega arith
-length-kept (true ∷ ms) (x ∷ xs) = omega (arith, length-kept ms xs)
-length-kept (false ∷ ms) (x ∷ xs) = omega (arith, length-kept ms xs)
+pub length_kept : {X : Type 0} (ms : List Bool) (xs : List X) → length (kept_by ms xs) ≤ length xs
+length_kept [] xs = omega arith
+length_kept (m ∷ ms) [] = omega arith
+length_kept (true ∷ ms) (x ∷ xs) = omega (arith, length_kept ms xs)
+length_kept (false ∷ ms) (x ∷ xs) = omega (arith, length_kept ms xs)
 
-above-kept : (x : ℕ) (ms : List Bool) (xs : List ℕ) → above x xs ≡ true → above x (keptBy ms xs) ≡ true
-above-kept x [] xs a = refl
-above-kept x (m ∷ ms) [] a = refl
-above-kept x (true ∷ ms) (y ∷ xs) a =
-    let p = and-parts (ltb x y) (above x xs) a in
-    and-from (ltb x y) (above x (keptBy ms xs)) (p .0) (above-kept x ms xs (p .1))
-above-kept x (false ∷ ms) (y ∷ xs) a = above-kept x ms xs (and-parts (ltb x y) (above x xs) a .1)
+above_kept : (x : ℕ) (ms : List Bool) (xs : List ℕ) → above x xs ≡ true → above x (kept_by ms xs) ≡ true
+above_kept x [] xs a = refl
+above_kept x (m ∷ ms) [] a = refl
+above_kept x (true ∷ ms) (y ∷ xs) a =
+    let p = and_parts (ltb x y) (above x xs) a in
+    and_from (ltb x y) (above x (kept_by ms xs)) p.0 (above_kept x ms xs p.1)
+above_kept x (false ∷ ms) (y ∷ xs) a = above_kept x ms xs (and_parts (ltb x y) (above x xs) a).1
 
-pub rising-kept : (ms : List Bool) (xs : List ℕ) → rising xs ≡ true → rising (keptBy ms xs) ≡ true
-rising-kept [] xs r = refl
-rising-kept (m ∷ ms) [] r = refl
-rising-kept (true ∷ ms) (x ∷ xs) r =
-    let p = and-parts (above x xs) (rising xs) r in
-    and-from (above x (keptBy ms xs)) (rising (keptBy ms xs)) (above-kept x ms xs (p .0)) (rising-kept ms xs (p .1))
-rising-kept (false ∷ ms) (x ∷ xs) r = rising-kept ms xs (and-parts (above x xs) (rising xs) r .1)
+pub rising_kept : (ms : List Bool) (xs : List ℕ) → rising xs ≡ true → rising (kept_by ms xs) ≡ true
+rising_kept [] xs r = refl
+rising_kept (m ∷ ms) [] r = refl
+rising_kept (true ∷ ms) (x ∷ xs) r =
+    let p = and_parts (above x xs) (rising xs) r in
+    and_from (above x (kept_by ms xs)) (rising (kept_by ms xs)) (above_kept x ms xs p.0) (rising_kept ms xs p.1)
+rising_kept (false ∷ ms) (x ∷ xs) r = rising_kept ms xs (and_parts (above x xs) (rising xs) r).1
 
-pub own-kept : (home made : ℕ) (ms : List Bool) (xs : List ℕ) → allOwn home made xs ≡ true → allOwn home made (keptBy ms xs) ≡ true
-own-kept home made [] xs r = refl
-own-kept home made (m ∷ ms) [] r = refl
-own-kept home made (true ∷ ms) (x ∷ xs) r =
-    let p = and-parts (isOwn home made x) (allOwn home made xs) r in
-    and-from (isOwn home made x) (allOwn home made (keptBy ms xs)) (p .0) (own-kept home made ms xs (p .1))
-own-kept home made (false ∷ ms) (x ∷ xs) r = own-kept home made ms xs (and-parts (isOwn home made x) (allOwn home made xs) r .1)
+pub own_kept : (home made : ℕ) (ms : List Bool) (xs : List ℕ) → all_own home made xs ≡ true → all_own home made (kept_by ms xs) ≡ true
+own_kept home made [] xs r = refl
+own_kept home made (m ∷ ms) [] r = refl
+own_kept home made (true ∷ ms) (x ∷ xs) r =
+    let p = and_parts (is_own home made x) (all_own home made xs) r in
+    and_from (is_own home made x) (all_own home made (kept_by ms xs)) p.0 (own_kept home made ms xs p.1)
+own_kept home made (false ∷ ms) (x ∷ xs) r = own_kept home made ms xs (and_parts (is_own home made x) (all_own home made xs) r).1
 
-pub some-kept : (ms : List Bool) (xs : List model.Object) → length xs ≤ length ms → Some (keptBy ms xs) xs
-some-kept [] [] l = end
-some-kept [] (x ∷ xs) l = absurd (omega arith)
-some-kept (m ∷ ms) [] l = end
-some-kept (true ∷ ms) (x ∷ xs) l = kept (some-kept ms xs (omega arith))
-some-kept (false ∷ ms) (x ∷ xs) l = left (some-kept ms xs (omega arith))
+pub some_kept : (ms : List Bool) (xs : List model.Object) → length xs ≤ length ms → Some (kept_by ms xs) xs
+some_kept [] [] l = end
+some_kept [] (x ∷ xs) l = absurd (omega arith)
+some_kept (m ∷ ms) [] l = end
+some_kept (true ∷ ms) (x ∷ xs) l = kept (some_kept ms xs (omega arith))
+some_kept (false ∷ ms) (x ∷ xs) l = left (some_kept ms xs (omega arith))
 
 -- what is kept had a mark
-pub kept-why : (o : ℕ) (ms : List Bool) (ns : List ℕ) → isIn o (keptBy ms ns) ≡ true → (k : ℕ) × (k < length ns) × (getD ms k false ≡ true) × (getD ns k 0 ≡ o)
-kept-why o [] ns e = absurd (both-ways false refl e)
-kept-why o (m ∷ ms) [] e = absurd (both-ways false refl e)
-kept-why o (true ∷ ms) (n ∷ ns) e = ⊎-elim
+pub kept_why : (o : ℕ) (ms : List Bool) (ns : List ℕ) → is_in o (kept_by ms ns) ≡ true → (k : ℕ) × (k < length ns) × (get_or ms k false ≡ true) × (get_or ns k 0 ≡ o)
+kept_why o [] ns e = absurd (both_ways false refl e)
+kept_why o (m ∷ ms) [] e = absurd (both_ways false refl e)
+kept_why o (true ∷ ms) (n ∷ ns) e = ⊎_elim
     (λ t. (0, omega arith, refl, eqb-true n o t))
-    (λ t. let q = kept-why o ms ns t in (suc (q .0), omega (arith, q .1), q .2, q .3))
-    (or-cases (eqb n o) (isIn o (keptBy ms ns)) e)
-kept-why o (false ∷ ms) (n ∷ ns) e = let q = kept-why o ms ns e in (suc (q .0), omega (arith, q .1), q .2, q .3)
+    (λ t. let q = kept_why o ms ns t in (suc q.0, omega (arith, q.1), q.2, q.3))
+    (or_cases (eqb n o) (is_in o (kept_by ms ns)) e)
+kept_why o (false ∷ ms) (n ∷ ns) e = let q = kept_why o ms ns e in (suc q.0, omega (arith, q.1), q.2, q.3)
 
 -- and what has one is kept
-pub kept-in : (o : ℕ) (ms : List Bool) (ns : List ℕ) (k : ℕ) → k < length ns → getD ms k false ≡ true → getD ns k 0 ≡ o → isIn o (keptBy ms ns) ≡ true
-kept-in o [] ns k h m e = absurd (both-ways false refl m)
-kept-in o (m′ ∷ ms) [] k h m e = absurd (omega arith)
-kept-in o (true ∷ ms) (n ∷ ns) zero h m e = or-left (eqb n o) (isIn o (keptBy ms ns)) (eq-eqb n o e)
-kept-in o (false ∷ ms) (n ∷ ns) zero h m e = absurd (both-ways false refl m)
-kept-in o (true ∷ ms) (n ∷ ns) (suc k) h m e = or-right (eqb n o) (isIn o (keptBy ms ns)) (kept-in o ms ns k (omega arith) m e)
-kept-in o (false ∷ ms) (n ∷ ns) (suc k) h m e = kept-in o ms ns k (omega arith) m e
+pub kept_in_place : (o : ℕ) (ms : List Bool) (ns : List ℕ) (k : ℕ) → k < length ns → get_or ms k false ≡ true → get_or ns k 0 ≡ o → is_in o (kept_by ms ns) ≡ true
+kept_in_place o [] ns k h m e = absurd (both_ways false refl m)
+kept_in_place o (m' ∷ ms) [] k h m e = absurd (omega arith)
+kept_in_place o (true ∷ ms) (n ∷ ns) zero h m e = or_left (eqb n o) (is_in o (kept_by ms ns)) (eq-eqb n o e)
+kept_in_place o (false ∷ ms) (n ∷ ns) zero h m e = absurd (both_ways false refl m)
+kept_in_place o (true ∷ ms) (n ∷ ns) (suc k) h m e = or_right (eqb n o) (is_in o (kept_by ms ns)) (kept_in_place o ms ns k (omega arith) m e)
+kept_in_place o (false ∷ ms) (n ∷ ns) (suc k) h m e = kept_in_place o ms ns k (omega arith) m e

@@ -1,19 +1,16 @@
-ghost use mathlib.Core.Path.{_≡_};
-ghost use Rattle·std.specs.Vec.{made};
-ghost use Rattle·objects·specs.Laws.{Frees};
-ghost use Rattle·objects·specs.Calls.{heapOf, linkAnswer, afterLink, unlinkAnswer, afterUnlink, loadAnswer, afterLoad, dropAnswer, afterDrop, keepAnswer, afterKeep, takeAnswer, afterTake};
+ghost use Rattle.std.specs.Prelude.{◌≡◌, OnOk};
+ghost use Rattle.objects.specs.Laws.{Frees};
+ghost use Rattle.objects.specs.Calls.{heap_of, link_answer, after_link, unlink_answer, after_unlink, load_answer, after_load, drop_answer, after_drop, keep_answer, after_keep, take_answer, after_take};
+
 use crate::store::Objects;
-use tables::NameNamed;
-use tables::find;
-use tables::first;
-use wire::Name;
-use wire::Refusal;
+use tables::{find, first};
+use wire::{Name, Refusal};
 
 impl Objects {
     // Puts `p` at the end of the fields of `o`.
     pub fn link(&mut self, o: Name, p: Name) -> Result<(), Refusal>
-        ensures value { λ r. ⌜ r ≡ linkAnswer (o .0) (p .0) (heapOf (now (self .entry))) ⌝ }
-        ensures after { λ _. ⌜ heapOf (now (self .exit)) ≡ afterLink (o .0) (p .0) (heapOf (now (self .entry))) ⌝ }
+        ensures value { result ≡ link_answer o.0 p.0 (heap_of self.old) }
+        ensures after { heap_of self.new ≡ after_link o.0 p.0 (heap_of self.old) }
     {
         if !o.is_well_formed(self.houses) || !p.is_well_formed(self.houses) {
             return Err(Refusal::Malformed);
@@ -34,8 +31,8 @@ impl Objects {
 
     // Takes the first field `p` of `o` away.
     pub fn unlink(&mut self, o: Name, p: Name) -> Result<(), Refusal>
-        ensures value { λ r. ⌜ r ≡ unlinkAnswer (o .0) (p .0) (heapOf (now (self .entry))) ⌝ }
-        ensures after { λ _. ⌜ heapOf (now (self .exit)) ≡ afterUnlink (o .0) (p .0) (heapOf (now (self .entry))) ⌝ }
+        ensures value { result ≡ unlink_answer o.0 p.0 (heap_of self.old) }
+        ensures after { heap_of self.new ≡ after_unlink o.0 p.0 (heap_of self.old) }
     {
         if !o.is_well_formed(self.houses) || !p.is_well_formed(self.houses) {
             return Err(Refusal::Malformed);
@@ -54,8 +51,8 @@ impl Objects {
 
     // Makes a field `p` of `o` a root.
     pub fn load(&mut self, o: Name, p: Name) -> Result<(), Refusal>
-        ensures value { λ r. ⌜ r ≡ loadAnswer (o .0) (p .0) (heapOf (now (self .entry))) ⌝ }
-        ensures after { λ _. ⌜ heapOf (now (self .exit)) ≡ afterLoad (o .0) (p .0) (heapOf (now (self .entry))) ⌝ }
+        ensures value { result ≡ load_answer o.0 p.0 (heap_of self.old) }
+        ensures after { heap_of self.new ≡ after_load o.0 p.0 (heap_of self.old) }
     {
         if !o.is_well_formed(self.houses) || !p.is_well_formed(self.houses) {
             return Err(Refusal::Malformed);
@@ -72,9 +69,9 @@ impl Objects {
 
     // Makes `o` a root no longer: the call `drop`.
     pub fn release(&mut self, o: Name) -> Result<(), Refusal>
-        ensures value { λ r. ⌜ r ≡ dropAnswer (o .0) (heapOf (now (self .entry))) ⌝ }
-        ensures after { λ _. ⌜ heapOf (now (self .exit)) ≡ afterDrop (o .0) (heapOf (now (self .entry))) ⌝ }
-        ensures frees { λ r. ⌜ made r (λ _. Frees (o .0) (heapOf (now (self .exit)))) ⌝ }
+        ensures value { result ≡ drop_answer o.0 (heap_of self.old) }
+        ensures after { heap_of self.new ≡ after_drop o.0 (heap_of self.old) }
+        ensures frees { OnOk result (Frees o.0 (heap_of self.new)) }
     {
         if !o.is_well_formed(self.houses) {
             return Err(Refusal::Malformed);
@@ -88,8 +85,8 @@ impl Objects {
 
     // Makes a name a root that is known here already.
     pub fn root(&mut self, o: Name) -> Result<(), Refusal>
-        ensures value { λ r. ⌜ r ≡ keepAnswer (o .0) (heapOf (now (self .entry))) ⌝ }
-        ensures after { λ _. ⌜ heapOf (now (self .exit)) ≡ afterKeep (o .0) (heapOf (now (self .entry))) ⌝ }
+        ensures value { result ≡ keep_answer o.0 (heap_of self.old) }
+        ensures after { heap_of self.new ≡ after_keep o.0 (heap_of self.old) }
     {
         if !o.is_well_formed(self.houses) {
             return Err(Refusal::Malformed);
@@ -99,8 +96,8 @@ impl Objects {
 
     // Makes a name a root that was handed over; there must be room, also where it is one.
     pub fn take(&mut self, o: Name) -> Result<(), Refusal>
-        ensures value { λ r. ⌜ r ≡ takeAnswer (o .0) (heapOf (now (self .entry))) ⌝ }
-        ensures after { λ _. ⌜ heapOf (now (self .exit)) ≡ afterTake (o .0) (heapOf (now (self .entry))) ⌝ }
+        ensures value { result ≡ take_answer o.0 (heap_of self.old) }
+        ensures after { heap_of self.new ≡ after_take o.0 (heap_of self.old) }
     {
         if !o.is_well_formed(self.houses) {
             return Err(Refusal::Malformed);

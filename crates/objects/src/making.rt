@@ -1,19 +1,16 @@
-ghost use mathlib.Core.Path.{_≡_};
-ghost use Rattle·std.specs.Results.{Cases};
-ghost use Rattle·objects·specs.Calls.{heapOf, makeAnswer, afterMake, newHeap, Unmade};
+ghost use Rattle.std.specs.Prelude.{◌≡◌, MatchResult};
+ghost use Rattle.objects.specs.Calls.{heap_of, make_answer, after_make, new_heap, Unmade};
+
 use crate::fault::Fault;
 use crate::store::Objects;
 use std::alloc::Global;
-use tables::Object;
-use tables::enter;
-use wire::House;
-use wire::Name;
-use wire::Refusal;
+use tables::{Object, enter};
+use wire::{House, Name, Refusal};
 
 impl Objects {
     // The tables of a house, empty: `home` is its number among `houses` houses.
     pub fn new(heap: Global, home: House, houses: u8) -> Result<Objects, Fault>
-        ensures { λ r. ⌜ Cases r (λ t. heapOf t ≡ newHeap (home .0) houses) (λ e. Unmade (home .0) houses e) ⌝ }
+        ensures { MatchResult result (λ t. heap_of t ≡ new_heap home.0 houses) (λ e. Unmade home.0 houses e) }
     {
         if houses > 16 || home.0 >= houses {
             return Err(Fault::Refused(Refusal::Malformed));
@@ -35,8 +32,8 @@ impl Objects {
 
     // Makes an object with this number. It has no fields, and is a root.
     pub fn make(&mut self, number: u64) -> Result<Name, Refusal>
-        ensures value { λ r. ⌜ r ≡ makeAnswer number (heapOf (now (self .entry))) ⌝ }
-        ensures after { λ _. ⌜ heapOf (now (self .exit)) ≡ afterMake number (heapOf (now (self .entry))) ⌝ }
+        ensures value { result ≡ make_answer number (heap_of self.old) }
+        ensures after { heap_of self.new ≡ after_make number (heap_of self.old) }
     {
         if number == 0 {
             return Err(Refusal::Malformed);

@@ -1,24 +1,14 @@
-ghost use mathlib.Core.Path.{_≡_};
-ghost use mathlib.Core.Bool.{true};
-ghost use mathlib.Core.List.{_++_};
-ghost use Prim.Native.Nat.{_≤_};
-ghost use lib.ListN.{length};
-ghost use Rattle·std.specs.Of.Vec.{vec-items};
-ghost use Rattle·std.specs.Vec.{made};
-ghost use Rattle·objects·specs.Calls.{heapOf};
-ghost use Rattle·tables.specs.Gathered.{Found};
-ghost use Rattle·objects·specs.Laws.{Sole, Well};
-ghost use Rattle·tables.specs.Met.{Lists, FarInUse, Refers};
-ghost use Rattle·tables.specs.Shown.{numbers};
+ghost use Rattle.std.specs.Prelude.{◌≡◌, ◌≤◌, true, ◌++◌, length, IfOk};
+ghost use Rattle.objects.specs.Calls.{heap_of};
+ghost use Rattle.tables.specs.Gathered.{Found};
+ghost use Rattle.objects.specs.Laws.{Sole, Well};
+ghost use Rattle.tables.specs.Met.{Lists, FarInUse, Refers};
+ghost use Rattle.tables.specs.Shown.{numbers};
+
 use crate::store::Objects;
-use std::alloc::AllocError;
-use std::alloc::Global;
-use tables::Which;
-use tables::gather;
-use tables::gather_fields;
-use tables::mark;
-use wire::House;
-use wire::Name;
+use std::alloc::{AllocError, Global};
+use tables::{Which, gather, gather_fields, mark};
+use wire::{House, Name};
 
 impl Objects {
     // The names that are looked for among the roots, the given names and the fields of marked objects, each once, rising.
@@ -29,8 +19,8 @@ impl Objects {
         marks: &[bool],
         which: Which,
     ) -> Result<Vec<Name>, AllocError>
-        requires { ⌜ 1024 ≤ length (now marks) ⌝ }
-        ensures { λ r. ⌜ made r (λ v. Found which (heapOf (now (self .entry))) (numbers (now (from .entry))) (now (marks .entry)) (numbers (vec-items v))) ⌝ }
+        requires { 1024 ≤ length marks.now }
+        ensures { IfOk result (λ v. Found which (heap_of self.now) (numbers from.now) marks.now (numbers v.items)) }
     {
         let mut out = Vec::new(heap);
         gather(&mut out, &self.roots, which)?;
@@ -41,9 +31,9 @@ impl Objects {
 
     // The references to other houses' objects that are met from the roots and the given names, each once, rising.
     pub fn in_use(&self, heap: Global, from: &[Name]) -> Result<Vec<Name>, AllocError>
-        ensures names { λ r. ⌜ made r (λ v. Lists (numbers (vec-items v)) (FarInUse (heapOf (now (self .entry))) (numbers (now (from .entry))))) ⌝ }
-        ensures well { λ r. ⌜ made r (λ v. Well (heapOf (now (self .entry))) (numbers (now (from .entry))) → Well (heapOf (now (self .entry))) (numbers (vec-items v))) ⌝ }
-        ensures sole { λ r. ⌜ made r (λ v. Sole (numbers (vec-items v)) (FarInUse (heapOf (now (self .entry))) (numbers (now (from .entry))))) ⌝ }
+        ensures names { IfOk result (λ v. Lists (numbers v.items) (FarInUse (heap_of self.now) (numbers from.now))) }
+        ensures well { IfOk result (λ v. Well (heap_of self.now) (numbers from.now) → Well (heap_of self.now) (numbers v.items)) }
+        ensures sole { IfOk result (λ v. Sole (numbers v.items) (FarInUse (heap_of self.now) (numbers from.now))) }
     {
         let mut marks = [false; 1024];
         mark(&self.objects, &self.roots, from, &mut marks);
@@ -52,9 +42,9 @@ impl Objects {
 
     // The names of a house's objects that are roots or in fields here, each once, rising.
     pub fn references_of(&self, heap: Global, house: House) -> Result<Vec<Name>, AllocError>
-        ensures names { λ r. ⌜ made r (λ v. Lists (numbers (vec-items v)) (Refers (heapOf (now (self .entry))) (house .0))) ⌝ }
-        ensures well { λ r. ⌜ made r (λ v. Well (heapOf (now (self .entry))) (numbers (vec-items v))) ⌝ }
-        ensures sole { λ r. ⌜ made r (λ v. Sole (numbers (vec-items v)) (Refers (heapOf (now (self .entry))) (house .0))) ⌝ }
+        ensures names { IfOk result (λ v. Lists (numbers v.items) (Refers (heap_of self.now) house.0)) }
+        ensures well { IfOk result (λ v. Well (heap_of self.now) (numbers v.items)) }
+        ensures sole { IfOk result (λ v. Sole (numbers v.items) (Refers (heap_of self.now) house.0)) }
     {
         let marks = [true; 1024];
         self.references(heap, &[], &marks, Which::Of(house))

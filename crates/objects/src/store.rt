@@ -1,12 +1,9 @@
-ghost use mathlib.Core.Path.{_≡_};
-ghost use mathlib.Core.Bool.{true};
-ghost use Prim.Native.Nat.{_≤_, _<_};
-ghost use Rattle·std.specs.Of.Vec.{vec-items, vec-len, vec-cap};
-ghost use Rattle·tables.specs.Model.{rising, allOwn, allWell, fieldsWell};
-ghost use Rattle·tables.specs.Shown.{numbers, namesIn, objectsOf};
+ghost use Rattle.std.specs.Prelude.{◌≡◌, ◌<◌, ◌≤◌, true, vec_len, vec_capacity};
+ghost use Rattle.tables.specs.Model.{rising, all_own, all_well, fields_well};
+ghost use Rattle.tables.specs.Shown.{numbers, names_in, objects_of};
+
 use tables::Object;
-use wire::House;
-use wire::Name;
+use wire::{House, Name};
 
 // The objects and roots of one house. The room for them is taken once, when it is made.
 #[derive(Drop)]
@@ -18,14 +15,14 @@ pub struct Objects {
     pub(crate) objects: Vec<Object>,
     pub(crate) roots: Vec<Name>,
     ghost sixteen: { houses ≤ 16 },
-    ghost inside: { home .0 < houses },
-    ghost few: { vec-len objects ≤ 1024 },
-    ghost room: { 1024 ≤ vec-cap objects },
-    ghost ordered: { rising (namesIn (vec-items objects)) ≡ true },
-    ghost own: { allOwn (home .0) made (namesIn (vec-items objects)) ≡ true },
-    ghost fewRoots: { vec-len roots ≤ 256 },
-    ghost roomRoots: { 256 ≤ vec-cap roots },
-    ghost orderedRoots: { rising (numbers (vec-items roots)) ≡ true },
-    ghost wellRoots: { allWell houses (numbers (vec-items roots)) ≡ true },
-    ghost wellFields: { fieldsWell houses (objectsOf (vec-items objects)) ≡ true },
+    ghost inside: { home.0 < houses },
+    ghost few: { vec_len objects ≤ 1024 },
+    ghost room: { 1024 ≤ vec_capacity objects },
+    ghost ordered: { rising (names_in objects.items) ≡ true },
+    ghost own: { all_own home.0 made (names_in objects.items) ≡ true },
+    ghost fewRoots: { vec_len roots ≤ 256 },
+    ghost roomRoots: { 256 ≤ vec_capacity roots },
+    ghost orderedRoots: { rising (numbers roots.items) ≡ true },
+    ghost wellRoots: { all_well houses (numbers roots.items) ≡ true },
+    ghost wellFields: { fields_well houses (objects_of objects.items) ≡ true },
 }

@@ -2,13 +2,11 @@
 #[cfg(test)]
 mod tests {
     use objects::Objects;
-    use std::test::*;
-    use wire::House;
-    use wire::Name;
-    use wire::Refusal;
+    use std::test::Fail;
+    use wire::{House, Name, Refusal};
 
     // House 0 of two, with the objects 16, 32, .. up to the number given, all roots.
-    fn house(rt: &LibcRuntime, objects: u64) -> Result<Objects, Fail> {
+    fn house(rt: &HostRuntime, objects: u64) -> Result<Objects, Fail> {
         let Ok(mut t) = Objects::new(rt.alloc(), House(0), 2) else {
             return Err(Fail::new("no house"));
         };
@@ -84,7 +82,7 @@ mod tests {
     }
 
     #[test]
-    fn chain(rt: LibcRuntime) -> Result<(), Fail> {
+    fn chain(rt: HostRuntime) -> Result<(), Fail> {
         let mut t = house(&rt, 3)?;
         let done = [
             link(&mut t, 16, 32),
@@ -92,40 +90,42 @@ mod tests {
             release(&mut t, 32),
             release(&mut t, 48),
         ];
-        check_eq(done, [0, 0, 0, 0])?;
+        assert_eq!(rt; done, [0, 0, 0, 0]);
         t.collect(&[]);
-        check_eq(names(&t), [3, 16, 32])?;
-        check_eq(release(&mut t, 16), 0)?;
+        assert_eq!(rt; names(&t), [3, 16, 32]);
+        assert_eq!(rt; release(&mut t, 16), 0);
         t.collect(&[Name(32)]);
-        check_eq(names(&t), [2, 32, 48])?;
+        assert_eq!(rt; names(&t), [2, 32, 48]);
         t.collect(&[]);
-        check_eq(names(&t), [0, 0, 0])
+        assert_eq!(rt; names(&t), [0, 0, 0]);
+        Ok(())
     }
 
     #[test]
-    fn tree(rt: LibcRuntime) -> Result<(), Fail> {
+    fn tree(rt: HostRuntime) -> Result<(), Fail> {
         let mut t = house(&rt, 4)?;
         let done = [
             link(&mut t, 16, 32),
             link(&mut t, 16, 48),
             link(&mut t, 32, 64),
         ];
-        check_eq(done, [0, 0, 0])?;
+        assert_eq!(rt; done, [0, 0, 0]);
         let dropped = [
             release(&mut t, 32),
             release(&mut t, 48),
             release(&mut t, 64),
         ];
-        check_eq(dropped, [0, 0, 0])?;
+        assert_eq!(rt; dropped, [0, 0, 0]);
         t.collect(&[]);
-        check_eq(names(&t), [4, 16, 32])?;
-        check_eq(unlink(&mut t, 16, 32), 0)?;
+        assert_eq!(rt; names(&t), [4, 16, 32]);
+        assert_eq!(rt; unlink(&mut t, 16, 32), 0);
         t.collect(&[]);
-        check_eq(names(&t), [2, 16, 48])
+        assert_eq!(rt; names(&t), [2, 16, 48]);
+        Ok(())
     }
 
     #[test]
-    fn rings(rt: LibcRuntime) -> Result<(), Fail> {
+    fn rings(rt: HostRuntime) -> Result<(), Fail> {
         let mut t = house(&rt, 3)?;
         let done = [
             link(&mut t, 16, 16),
@@ -134,18 +134,19 @@ mod tests {
             release(&mut t, 16),
             release(&mut t, 32),
         ];
-        check_eq(done, [0, 0, 0, 0, 0])?;
+        assert_eq!(rt; done, [0, 0, 0, 0, 0]);
         t.collect(&[]);
-        check_eq(names(&t), [2, 32, 48])?;
-        check_eq(release(&mut t, 48), 0)?;
+        assert_eq!(rt; names(&t), [2, 32, 48]);
+        assert_eq!(rt; release(&mut t, 48), 0);
         t.collect(&[Name(48)]);
-        check_eq(names(&t), [2, 32, 48])?;
+        assert_eq!(rt; names(&t), [2, 32, 48]);
         t.collect(&[]);
-        check_eq(names(&t), [0, 0, 0])
+        assert_eq!(rt; names(&t), [0, 0, 0]);
+        Ok(())
     }
 
     #[test]
-    fn fields_in_order(rt: LibcRuntime) -> Result<(), Fail> {
+    fn fields_in_order(rt: HostRuntime) -> Result<(), Fail> {
         let mut t = house(&rt, 3)?;
         let done = [
             link(&mut t, 16, 32),
@@ -153,8 +154,8 @@ mod tests {
             link(&mut t, 16, 32),
             unlink(&mut t, 16, 32),
         ];
-        check_eq(done, [0, 0, 0, 0])?;
-        check_eq(fields(&t), [2, 48])?;
+        assert_eq!(rt; done, [0, 0, 0, 0]);
+        assert_eq!(rt; fields(&t), [2, 48]);
         let refused = [
             unlink(&mut t, 16, 16),
             load(&mut t, 16, 16),
@@ -162,12 +163,13 @@ mod tests {
             link(&mut t, 16, 48),
             load(&mut t, 16, 48),
         ];
-        check_eq(refused, [4, 4, 0, 3, 0])?;
-        check(t.is_root(Name(48)))
+        assert_eq!(rt; refused, [4, 4, 0, 3, 0]);
+        assert!(rt; t.is_root(Name(48)));
+        Ok(())
     }
 
     #[test]
-    fn bad_names(rt: LibcRuntime) -> Result<(), Fail> {
+    fn bad_names(rt: HostRuntime) -> Result<(), Fail> {
         let mut t = house(&rt, 1)?;
         let refused = [
             link(&mut t, 0, 16),
@@ -176,7 +178,7 @@ mod tests {
             release(&mut t, 15),
             release(&mut t, 32),
         ];
-        check_eq(refused, [1, 1, 1, 1, 3])?;
+        assert_eq!(rt; refused, [1, 1, 1, 1, 3]);
         let far = [
             take(&mut t, 17),
             link(&mut t, 17, 16),
@@ -184,13 +186,14 @@ mod tests {
             make(&mut t, 1),
             make(&mut t, 268435456),
         ];
-        check_eq(far, [0, 3, 1, 10, 10])?;
-        check_eq(names(&t), [1, 16, 0])?;
-        check_eq(summary(t.roots()), [2, 16])
+        assert_eq!(rt; far, [0, 3, 1, 10, 10]);
+        assert_eq!(rt; names(&t), [1, 16, 0]);
+        assert_eq!(rt; summary(t.roots()), [2, 16]);
+        Ok(())
     }
 
     #[test]
-    fn full_roots(rt: LibcRuntime) -> Result<(), Fail> {
+    fn full_roots(rt: HostRuntime) -> Result<(), Fail> {
         let mut t = house(&rt, 256)?;
         let refused = [
             make(&mut t, 257),
@@ -199,7 +202,7 @@ mod tests {
             code(t.root(Name(16))),
             take(&mut t, 16),
         ];
-        check_eq(refused, [9, 1, 9, 0, 9])?;
+        assert_eq!(rt; refused, [9, 1, 9, 0, 9]);
         let done = [
             link(&mut t, 16, 32),
             load(&mut t, 16, 32),
@@ -207,28 +210,30 @@ mod tests {
             take(&mut t, 33),
             load(&mut t, 16, 32),
         ];
-        check_eq(done, [0, 0, 0, 0, 9])?;
-        check_eq(summary(t.roots()), [256, 16])
+        assert_eq!(rt; done, [0, 0, 0, 0, 9]);
+        assert_eq!(rt; summary(t.roots()), [256, 16]);
+        Ok(())
     }
 
     #[test]
-    fn full_tables(rt: LibcRuntime) -> Result<(), Fail> {
+    fn full_tables(rt: HostRuntime) -> Result<(), Fail> {
         let mut t = house(&rt, 9)?;
         for p in 2..10u32 {
-            check_eq(link(&mut t, 16, 16 * p), 0)?;
+            assert_eq!(rt; link(&mut t, 16, 16 * p), 0);
         }
         for k in 10..1025u32 {
-            check_eq(make(&mut t, u64::from(k)), 0)?;
-            check_eq(release(&mut t, 16 * k), 0)?;
+            assert_eq!(rt; make(&mut t, u64::from(k)), 0);
+            assert_eq!(rt; release(&mut t, 16 * k), 0);
         }
-        check_eq([make(&mut t, 1025), link(&mut t, 16, 16)], [9, 9])?;
+        assert_eq!(rt; [make(&mut t, 1025), link(&mut t, 16, 16)], [9, 9]);
         t.collect(&[Name(16384)]);
-        check_eq(names(&t), [10, 16, 32])?;
-        check(t.is_present(Name(16384)))
+        assert_eq!(rt; names(&t), [10, 16, 32]);
+        assert!(rt; t.is_present(Name(16384)));
+        Ok(())
     }
 
     #[test]
-    fn far_references(rt: LibcRuntime) -> Result<(), Fail> {
+    fn far_references(rt: HostRuntime) -> Result<(), Fail> {
         let mut t = house(&rt, 2)?;
         let done = [
             take(&mut t, 49),
@@ -236,18 +241,19 @@ mod tests {
             link(&mut t, 16, 49),
             link(&mut t, 32, 33),
         ];
-        check_eq(done, [0, 0, 0, 0])?;
+        assert_eq!(rt; done, [0, 0, 0, 0]);
         let dropped = [
             release(&mut t, 49),
             release(&mut t, 33),
             release(&mut t, 32),
         ];
-        check_eq(dropped, [0, 0, 0])?;
+        assert_eq!(rt; dropped, [0, 0, 0]);
         let all = t.references_of(rt.alloc(), House(1))?;
-        check_eq(summary(&all), [2, 33])?;
+        assert_eq!(rt; summary(&all), [2, 33]);
         let used = t.in_use(rt.alloc(), &[])?;
-        check_eq(summary(&used), [1, 49])?;
+        assert_eq!(rt; summary(&used), [1, 49]);
         let more = t.in_use(rt.alloc(), &[Name(32)])?;
-        check_eq(summary(&more), [2, 33])
+        assert_eq!(rt; summary(&more), [2, 33]);
+        Ok(())
     }
 }

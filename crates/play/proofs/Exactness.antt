@@ -1,10 +1,10 @@
 -- From every world that entries lead to, the collector's own entries leave exactly what matters.
-use Rattle·play·specs.Exact.{AlwaysSettles, NothingLeft}
-use Rattle·play·proofs.Completes.{completes}
-use Rattle·play·proofs.Settled.{settles, nothing-left}
+use Rattle.play.specs.Exact.{AlwaysSettles, NothingLeft}
+use Rattle.play.proofs.Completes.{completes}
+use Rattle.play.proofs.Settled.{settles, nothing_left}
 
-pub always-settles : AlwaysSettles
-always-settles = settles completes
+pub always_settles : AlwaysSettles
+always_settles = settles completes
 
-pub always-left : NothingLeft
-always-left = nothing-left always-settles
+pub always_left : NothingLeft
+always_left = nothing_left always_settles

@@ -1,72 +1,65 @@
 -- One house moves, the others stay: what the relation sees of it, and how an outcome is reached by its steps.
-use mathlib.Core.Path.{_≡_, refl, sym, _∙_, ap, subst}
-use mathlib.Core.Bool.{Bool, true, false, cond}
-use mathlib.Core.List.{List, [], _∷_, _++_, map}
-use Prim.Native.Nat.{ℕ}
-use lib.Dec.{eqb, T, eqb→eq}
-use Rattle·std.specs.declared.result.Result.{Result}
-use Rattle·std.specs.declared.result.Result.the-variants.{Ok, Err}
-use Rattle·std.specs.Results.{isOk}
-use Rattle·std.proofs.shelf.Tests.{false≢true}
-use Rattle·wire.specs.declared.refusal.Refusal.{Refusal}
-use Rattle·tables.specs.Model.{Object, Heap}
-use Rattle·rounds.specs.Model as rounds
-use Rattle·rules.specs.House as rules
-use Rattle·rules.specs.Step.{Letter, Outcome, refused, refuseIf, sends, quietly}
-use Rattle·promise.specs.House.{House}
-use Rattle·promise.specs.Net.{Msg, with}
-use Rattle·promise.specs.Net as net
-use Rattle·promise.specs.Alike.{AlikeObjects, AlikeHouse}
-use Rattle·promise.specs.Rounds.{Part, Desk, Turn, AlikePart, Alike}
-use Rattle·promise.specs.Rounds as promise
-use Rattle·promise.specs.Promise.{Collects}
-use Rattle·play·specs.Play.{World, put, bytesOf, written}
-use Rattle·play·specs.Seen.{houseSeen, partSeen, deskSeen, msgOf, noteOf, seen}
-use Rattle·play·proofs.Sending.{ReadableSaid, Readable, Both, both-refl, msgsOf, notesOf, msgs-sent, notes-sent}
+use Rattle.std.proofs.Common.{◌≡◌, ℕ, Bool, true, false, cond, T, eqb, List, [], ◌∷◌, ◌++◌, map, is_ok, Ok, Err, Result, sym, refl, ap, ◌∙◌, subst, eqb→eq}
+use Rattle.std.proofs.lemmas.Bool.{false≢true}
+use Rattle.wire.specs.declared.refusal.Refusal.{Refusal}
+use Rattle.tables.specs.Model.{Object, Heap}
+use Rattle.rounds.specs.Model as rounds
+use Rattle.rules.specs.House as rules
+use Rattle.rules.specs.Step.{Letter, Outcome, refused, refuse_if, sends, quietly}
+use Rattle.promise.specs.House.{House}
+use Rattle.promise.specs.Net.{Msg, with}
+use Rattle.promise.specs.Net as net
+use Rattle.promise.specs.Alike.{AlikeObjects, AlikeHouse}
+use Rattle.promise.specs.Rounds.{Part, Desk, Turn, AlikePart, Alike}
+use Rattle.promise.specs.Rounds as promise
+use Rattle.promise.specs.Promise.{Collects}
+use Rattle.play.specs.Play.{World, put, bytes_of, written}
+use Rattle.play.specs.Seen.{house_seen, part_seen, desk_seen, msg_of, note_of, seen}
+use Rattle.play.proofs.Sending.{ReadableSaid, Readable, Both, both_refl, msgs_of, notes_of, msgs_sent, notes_sent}
 
 -- alike with itself
-pub objects-refl : (xs : List Object) → AlikeObjects xs xs
-objects-refl xs = record { present = λ o. refl; fields = λ o p. refl; everywhere = λ o. refl; count = λ o. refl }
+pub objects_refl : (xs : List Object) → AlikeObjects xs xs
+objects_refl xs = record { present = λ o. refl; fields = λ o p. refl; everywhere = λ o. refl; count = λ o. refl }
 
-pub house-refl : (h : House) → AlikeHouse h h
-house-refl h = record { roots = λ o. refl; objects = objects-refl (h .objects); list = refl; given = λ j. refl; seen = λ j. refl; heard = λ j. refl; census = refl }
+pub house_refl : (h : House) → AlikeHouse h h
+house_refl h = record { roots = λ o. refl; objects = objects_refl h.objects; list = refl; given = λ j. refl; seen = λ j. refl; heard = λ j. refl; census = refl }
 
-pub part-refl : (p : Part) → AlikePart p p
-part-refl p = record { told = λ o. refl; answered = λ o. refl; tally = refl; polled = refl; stirred = refl }
+pub part_refl : (p : Part) → AlikePart p p
+part_refl p = record { told = λ o. refl; answered = λ o. refl; tally = refl; polled = refl; stirred = refl }
 
 -- by cases on whether it is house i
-pub put-cases : (i : ℕ) (P : ℕ → Bool → Type 0) → P i true → ((j : ℕ) → P j false) → (j : ℕ) → P j (eqb j i)
-put-cases i P here there j = go (eqb j i) refl
+pub put_cases : (i : ℕ) (P : ℕ → Bool → Type 0) → P i true → ((j : ℕ) → P j false) → (j : ℕ) → P j (eqb j i)
+put_cases i P here there j = go (eqb j i) refl
   where
     go : (b : Bool) → eqb j i ≡ b → P j b
     go true e = subst (λ (k : ℕ). P k true) (sym (eqb→eq j i (subst T (sym e) tt))) here
     go false e = there j
 
 module _ (w : World) (i : ℕ) (h : rules.House) where
-  pub house-put : (g : House) → AlikeHouse g (houseSeen h) → (j : ℕ) → AlikeHouse (put i g (λ k. houseSeen (w .house k)) j) (houseSeen (put i h (w .house) j))
-  house-put g a = put-cases i (λ j b. AlikeHouse (cond b g (houseSeen (w .house j))) (houseSeen (cond b h (w .house j)))) a (λ j. house-refl (houseSeen (w .house j)))
+  pub house_put : (g : House) → AlikeHouse g (house_seen h) → (j : ℕ) → AlikeHouse (put i g (λ k. house_seen (w.house k)) j) (house_seen (put i h w.house j))
+  house_put g a = put_cases i (λ j b. AlikeHouse (cond b g (house_seen (w.house j))) (house_seen (cond b h (w.house j)))) a (λ j. house_refl (house_seen (w.house j)))
 
-  pub house-kept : AlikeHouse (houseSeen (w .house i)) (houseSeen h) → (j : ℕ) → AlikeHouse (houseSeen (w .house j)) (houseSeen (put i h (w .house) j))
-  house-kept a = put-cases i (λ j b. AlikeHouse (houseSeen (w .house j)) (houseSeen (cond b h (w .house j)))) a (λ j. house-refl (houseSeen (w .house j)))
+  pub house_kept : AlikeHouse (house_seen (w.house i)) (house_seen h) → (j : ℕ) → AlikeHouse (house_seen (w.house j)) (house_seen (put i h w.house j))
+  house_kept a = put_cases i (λ j b. AlikeHouse (house_seen (w.house j)) (house_seen (cond b h (w.house j)))) a (λ j. house_refl (house_seen (w.house j)))
 
-  pub part-put : (q : Part) → AlikePart q (partSeen (h .part)) → (j : ℕ) → AlikePart (put i q (λ k. partSeen (w .house k .part)) j) (partSeen (put i h (w .house) j .part))
-  part-put q a = put-cases i (λ j b. AlikePart (cond b q (partSeen (w .house j .part))) (partSeen (cond b h (w .house j) .part))) a (λ j. part-refl (partSeen (w .house j .part)))
+  pub part_put : (q : Part) → AlikePart q (part_seen h.part) → (j : ℕ) → AlikePart (put i q (λ k. part_seen (w.house k).part) j) (part_seen (put i h w.house j).part)
+  part_put q a = put_cases i (λ j b. AlikePart (cond b q (part_seen (w.house j).part)) (part_seen (cond b h (w.house j)).part)) a (λ j. part_refl (part_seen (w.house j).part))
 
-  pub part-kept : AlikePart (partSeen (w .house i .part)) (partSeen (h .part)) → (j : ℕ) → AlikePart (partSeen (w .house j .part)) (partSeen (put i h (w .house) j .part))
-  part-kept a = put-cases i (λ j b. AlikePart (partSeen (w .house j .part)) (partSeen (cond b h (w .house j) .part))) a (λ j. part-refl (partSeen (w .house j .part)))
+  pub part_kept : AlikePart (part_seen (w.house i).part) (part_seen h.part) → (j : ℕ) → AlikePart (part_seen (w.house j).part) (part_seen (put i h w.house j).part)
+  part_kept a = put_cases i (λ j b. AlikePart (part_seen (w.house j).part) (part_seen (cond b h (w.house j)).part)) a (λ j. part_refl (part_seen (w.house j).part))
 
-  pub made-put : (k : ℕ) → k ≡ h .heap .made → (j : ℕ) → put i k (λ a. w .house a .heap .made) j ≡ put i h (w .house) j .heap .made
-  made-put k e = put-cases i (λ j b. cond b k (w .house j .heap .made) ≡ cond b h (w .house j) .heap .made) e (λ j. refl)
+  pub made_put : (k : ℕ) → k ≡ h.heap.made → (j : ℕ) → put i k (λ a. (w.house a).heap.made) j ≡ (put i h w.house j).heap.made
+  made_put k e = put_cases i (λ j b. cond b k (w.house j).heap.made ≡ (cond b h (w.house j)).heap.made) e (λ j. refl)
 
-  pub made-kept : w .house i .heap .made ≡ h .heap .made → (j : ℕ) → w .house j .heap .made ≡ put i h (w .house) j .heap .made
-  made-kept e = put-cases i (λ j b. w .house j .heap .made ≡ cond b h (w .house j) .heap .made) e (λ j. refl)
+  pub made_kept : (w.house i).heap.made ≡ h.heap.made → (j : ℕ) → (w.house j).heap.made ≡ (put i h w.house j).heap.made
+  made_kept e = put_cases i (λ j b. (w.house j).heap.made ≡ (cond b h (w.house j)).heap.made) e (λ j. refl)
 
-  pub desk-kept : w .house i .desk ≡ h .desk → w .house 0 .desk ≡ put i h (w .house) 0 .desk
-  desk-kept e = put-cases i (λ j b. w .house j .desk ≡ cond b h (w .house j) .desk) e (λ j. refl) 0
+  pub desk_kept : (w.house i).desk ≡ h.desk → (w.house 0).desk ≡ (put i h w.house 0).desk
+  desk_kept e = put_cases i (λ j b. (w.house j).desk ≡ (cond b h (w.house j)).desk) e (λ j. refl) 0
 
 -- house i becomes this, and these messages are sent
 abbrev pub moved : ℕ → rules.House → List (List ℕ) → World → World
-moved i h bss w = record { house = put i h (w .house); sent = w .sent ++ bss }
+moved i h bss w = record { house = put i h w.house; sent = w.sent ++ bss }
 
 -- steps of the relation, one after the other; all the collector's, if that is wanted
 pub data Way (cleaning : Bool) (n : ℕ) : promise.World → promise.World → Type 0 where
@@ -79,69 +72,69 @@ free e = absurd (false≢true e)
 
 -- the steps of the relation lead to what the outcome makes of the world
 abbrev pub Tracks : Bool → ℕ → ℕ → World → Outcome → Type 0
-Tracks b n i w x = ReadableSaid n (x .answer) → Way b n (seen n w) (seen n (moved i (x .house) (written (x .answer)) w))
+Tracks b n i w x = ReadableSaid n x.answer → Way b n (seen n w) (seen n (moved i x.house (written x.answer) w))
 
 module _ (n i : ℕ) (w : World) (h : rules.House) where
   -- a step that leads to something alike
-  pub arrives : (b : Bool) (ls : List Letter) (v : promise.World) → Way b n (seen n w) v → Alike v (seen n (moved i h (map bytesOf ls) w)) → Way b n (seen n w) (seen n (moved i h (map bytesOf ls) w))
+  pub arrives : (b : Bool) (ls : List Letter) (v : promise.World) → Way b n (seen n w) v → Alike v (seen n (moved i h (map bytes_of ls) w)) → Way b n (seen n w) (seen n (moved i h (map bytes_of ls) w))
   arrives b ls v l a = Way.more l (Turn.alike v _ a) (λ _. tt)
 
   -- the pieces of such a likeness: houses, names made, parts, rounds, and what was sent and said
-  pub alike-by : (ls : List Letter) (v : promise.World) → Readable n ls →
-      ((j : ℕ) → AlikeHouse (v .net .house j) (houseSeen (put i h (w .house) j))) → ((j : ℕ) → v .net .made j ≡ put i h (w .house) j .heap .made) →
-      ((j : ℕ) → AlikePart (v .part j) (partSeen (put i h (w .house) j .part))) → (d : rounds.Desk) → v .desk ≡ deskSeen d → d ≡ put i h (w .house) 0 .desk →
-      Both (v .net .sent) (msgsOf ls ++ seen n w .net .sent) → Both (v .said) (notesOf ls ++ seen n w .said) → Alike v (seen n (moved i h (map bytesOf ls) w))
-  alike-by ls v r hs ms ps d e ed s k =
+  pub alike_by : (ls : List Letter) (v : promise.World) → Readable n ls →
+      ((j : ℕ) → AlikeHouse (v.net.house j) (house_seen (put i h w.house j))) → ((j : ℕ) → v.net.made j ≡ (put i h w.house j).heap.made) →
+      ((j : ℕ) → AlikePart (v.part j) (part_seen (put i h w.house j).part)) → (d : rounds.Desk) → v.desk ≡ desk_seen d → d ≡ (put i h w.house 0).desk →
+      Both v.net.sent (msgs_of ls ++ (seen n w).net.sent) → Both v.said (notes_of ls ++ (seen n w).said) → Alike v (seen n (moved i h (map bytes_of ls) w))
+  alike_by ls v r hs ms ps d e ed s k =
       record {
-        net = record { house = hs; sent = λ x. let m = msgs-sent n (w .sent) ls r x in (λ z. m .1 (s x .0 z), λ z. s x .1 (m .0 z)); made = ms };
+        net = record { house = hs; sent = λ x. let m = msgs_sent n w.sent ls r x in (λ z. m.1 ((s x).0 z), λ z. (s x).1 (m.0 z)); made = ms };
         part = ps;
-        round = ap (λ (y : Desk). y .round) f;
-        now = λ j. ap (λ (y : Desk). y .now j) f;
-        before = λ j. ap (λ (y : Desk). y .before j) f;
-        said = λ x. let m = notes-sent n (w .sent) ls r x in (λ z. m .1 (k x .0 z), λ z. k x .1 (m .0 z));
+        round = ap (λ (y : Desk). y.round) f;
+        now = λ j. ap (λ (y : Desk). y.now j) f;
+        before = λ j. ap (λ (y : Desk). y.before j) f;
+        said = λ x. let m = notes_sent n w.sent ls r x in (λ z. m.1 ((k x).0 z), λ z. (k x).1 (m.0 z));
       }
     where
-      f : v .desk ≡ deskSeen (put i h (w .house) 0 .desk)
-      f = e ∙ ap deskSeen ed
+      f : v.desk ≡ desk_seen (put i h w.house 0).desk
+      f = e ∙ ap desk_seen ed
 
 module _ (b : Bool) (n i : ℕ) (w : World) where
-  pub tracks-refused : (e : Refusal) → Tracks b n i w (refused e (w .house i))
-  tracks-refused e r =
-      arrives n i w (w .house i) b [] (seen n w) Way.same
-      (alike-by n i w (w .house i) [] (seen n w) (λ l m. absurd (mathlib.Core.List.List·Memᴰ·not-nil m)) (house-kept w i (w .house i) (house-refl _)) (made-kept w i (w .house i) refl) (part-kept w i (w .house i) (part-refl _)) (w .house 0 .desk) refl (desk-kept w i (w .house i) refl) (both-refl _) (both-refl _))
+  pub tracks_refused : (e : Refusal) → Tracks b n i w (refused e (w.house i))
+  tracks_refused e r =
+      arrives n i w (w.house i) b [] (seen n w) Way.same
+      (alike_by n i w (w.house i) [] (seen n w) (λ l m. absurd (mathlib.Core.List.Memᴰ.not-nil m)) (house_kept w i (w.house i) (house_refl _)) (made_kept w i (w.house i) refl) (part_kept w i (w.house i) (part_refl _)) (w.house 0).desk refl (desk_kept w i (w.house i) refl) (both_refl _) (both_refl _))
 
-  pub tracks-unless : (t : Bool) (e : Refusal) (x : Outcome) → (t ≡ false → Tracks b n i w x) → Tracks b n i w (refuseIf t e (w .house i) x)
-  tracks-unless true e x f = tracks-refused e
-  tracks-unless false e x f = f refl
+  pub tracks_unless : (t : Bool) (e : Refusal) (x : Outcome) → (t ≡ false → Tracks b n i w x) → Tracks b n i w (refuse_if t e (w.house i) x)
+  tracks_unless true e x f = tracks_refused e
+  tracks_unless false e x f = f refl
 
   -- one step that changes house i and sends nothing
-  pub tracks-house : (h : rules.House) (g : House) (t : Turn n (seen n w) (record { net = with i g (seen n w .net); part = seen n w .part; desk = seen n w .desk; said = seen n w .said })) → (b ≡ true → Collects t) →
-      AlikeHouse g (houseSeen h) → w .house i .heap .made ≡ h .heap .made → AlikePart (partSeen (w .house i .part)) (partSeen (h .part)) → w .house i .desk ≡ h .desk → Tracks b n i w (sends [] h)
-  tracks-house h g t c a em p ed r =
+  pub tracks_house : (h : rules.House) (g : House) (t : Turn n (seen n w) (record { net = with i g (seen n w).net; part = (seen n w).part; desk = (seen n w).desk; said = (seen n w).said })) → (b ≡ true → Collects t) →
+      AlikeHouse g (house_seen h) → (w.house i).heap.made ≡ h.heap.made → AlikePart (part_seen (w.house i).part) (part_seen h.part) → (w.house i).desk ≡ h.desk → Tracks b n i w (sends [] h)
+  tracks_house h g t c a em p ed r =
       arrives n i w h b [] _ (Way.more Way.same t c)
-      (alike-by n i w h [] (record { net = with i g (seen n w .net); part = seen n w .part; desk = seen n w .desk; said = seen n w .said }) r (house-put w i h g a) (made-kept w i h em) (part-kept w i h p) (w .house 0 .desk) refl (desk-kept w i h ed) (both-refl _) (both-refl _))
+      (alike_by n i w h [] (record { net = with i g (seen n w).net; part = (seen n w).part; desk = (seen n w).desk; said = (seen n w).said }) r (house_put w i h g a) (made_kept w i h em) (part_kept w i h p) (w.house 0).desk refl (desk_kept w i h ed) (both_refl _) (both_refl _))
 
   -- what the objects answered
-  pub tracks-heap : {X : Type 0} (r : Result X Refusal) (new : Heap) → (isOk r ≡ true → Tracks b n i w (sends [] (rules.withHeap new (w .house i)))) → Tracks b n i w (quietly r (cond (isOk r) new (w .house i .heap)) (w .house i))
-  tracks-heap (Ok x) new f = f refl
-  tracks-heap (Err e) new f = tracks-refused e
+  pub tracks_heap : {X : Type 0} (r : Result X Refusal) (new : Heap) → (is_ok r ≡ true → Tracks b n i w (sends [] (rules.with_heap new (w.house i)))) → Tracks b n i w (quietly r (cond (is_ok r) new (w.house i).heap) (w.house i))
+  tracks_heap (Ok x) new f = f refl
+  tracks_heap (Err e) new f = tracks_refused e
 
 -- an answer that is no refusal passed the test
-pub passed : {X : Type 0} (b : Bool) (e : Refusal) (r : Result X Refusal) → isOk (cond b (Err e) r) ≡ true → (b ≡ false) × (isOk r ≡ true)
+pub passed : {X : Type 0} (b : Bool) (e : Refusal) (r : Result X Refusal) → is_ok (cond b (Err e) r) ≡ true → (b ≡ false) × (is_ok r ≡ true)
 passed true e r ok = absurd (false≢true ok)
 passed false e r ok = (refl, ok)
 
 -- a message more
-pub both-one : {A : Type 0} (x : A) (front xs : List A) → front ≡ x ∷ [] → Both (x ∷ xs) ((front ++ []) ++ xs)
-both-one x front xs e = subst (λ (ys : List _). Both (x ∷ xs) ((ys ++ []) ++ xs)) (sym e) (both-refl (x ∷ xs))
+pub both_one : {A : Type 0} (x : A) (front xs : List A) → front ≡ x ∷ [] → Both (x ∷ xs) ((front ++ []) ++ xs)
+both_one x front xs e = subst (λ (ys : List _). Both (x ∷ xs) ((ys ++ []) ++ xs)) (sym e) (both_refl (x ∷ xs))
 
-pub both-none : {A : Type 0} (front xs : List A) → front ≡ [] → Both xs ((front ++ []) ++ xs)
-both-none front xs e = subst (λ (ys : List _). Both xs ((ys ++ []) ++ xs)) (sym e) (both-refl xs)
+pub both_none : {A : Type 0} (front xs : List A) → front ≡ [] → Both xs ((front ++ []) ++ xs)
+both_none front xs e = subst (λ (ys : List _). Both xs ((ys ++ []) ++ xs)) (sym e) (both_refl xs)
 
 module _ (b : Bool) (n i : ℕ) (w : World) where
   -- one step that sends one message, with the house as it is
-  pub tracks-send : (l : Letter) (m : Msg) → msgOf (l .0) (l .1) ≡ m ∷ [] → noteOf (l .0) ≡ [] →
-      (t : Turn n (seen n w) (record { net = net.sends m (seen n w .net); part = seen n w .part; desk = seen n w .desk; said = seen n w .said })) → (b ≡ true → Collects t) → Tracks b n i w (sends (l ∷ []) (w .house i))
-  tracks-send l m em en t c r =
-      arrives n i w (w .house i) b (l ∷ []) _ (Way.more Way.same t c)
-      (alike-by n i w (w .house i) (l ∷ []) (record { net = net.sends m (seen n w .net); part = seen n w .part; desk = seen n w .desk; said = seen n w .said }) r (house-kept w i (w .house i) (house-refl _)) (made-kept w i (w .house i) refl) (part-kept w i (w .house i) (part-refl _)) (w .house 0 .desk) refl (desk-kept w i (w .house i) refl) (both-one m (msgOf (l .0) (l .1)) (seen n w .net .sent) em) (both-none (noteOf (l .0)) (seen n w .said) en))
+  pub tracks_send : (l : Letter) (m : Msg) → msg_of l.0 l.1 ≡ m ∷ [] → note_of l.0 ≡ [] →
+      (t : Turn n (seen n w) (record { net = net.sends m (seen n w).net; part = (seen n w).part; desk = (seen n w).desk; said = (seen n w).said })) → (b ≡ true → Collects t) → Tracks b n i w (sends (l ∷ []) (w.house i))
+  tracks_send l m em en t c r =
+      arrives n i w (w.house i) b (l ∷ []) _ (Way.more Way.same t c)
+      (alike_by n i w (w.house i) (l ∷ []) (record { net = net.sends m (seen n w).net; part = (seen n w).part; desk = (seen n w).desk; said = (seen n w).said }) r (house_kept w i (w.house i) (house_refl _)) (made_kept w i (w.house i) refl) (part_kept w i (w.house i) (part_refl _)) (w.house 0).desk refl (desk_kept w i (w.house i) refl) (both_one m (msg_of l.0 l.1) (seen n w).net.sent em) (both_none (note_of l.0) (seen n w).said en))

@@ -1,45 +1,39 @@
 -- The promise over every play, from the promise over every run of the relation.
-use mathlib.Core.Path.{_≡_, refl, sym, _∙_, ap, subst}
-use mathlib.Core.Logic.{_⊎_, inl, inr, ⊎-elim}
-use mathlib.Core.Bool.{Bool, true}
-use mathlib.Core.List.{List, [], _∷_, List·Memᴰ, List·Memᴰ·head, List·Memᴰ·tail, List·Memᴰ·cases-cons, List·Memᴰ·append-cases, List·Memᴰ·not-nil}
-use Prim.Native.Nat.{ℕ, _<_, _≤_}
-use native.Mathlib.Omega.{arith}
-use lib.Dec.{leb}
-use Rattle·std.specs.declared.result.Result.{Result}
-use Rattle·std.specs.declared.result.Result.the-variants.{Ok, Err}
-use Rattle·std.proofs.shelf.Tests.{and-parts, leb-true}
-use Rattle·wire.specs.declared.message.Message.{Message}
-use Rattle·wire.specs.declared.message.Message.the-variants as message
-use Rattle·wire.specs.declared.refusal.Refusal.{Refusal}
-use Rattle·wire.specs.Names.{house, name}
-use Rattle·wire.specs.Format.{decode}
-use Rattle·lines.specs.Stamping.{stamp}
-use Rattle·rounds.specs.Model.{agreed, allAgree}
-use Rattle·rules.specs.House.{census}
-use Rattle·promise.specs.Net.{Msg, Give}
-use Rattle·promise.specs.Net as net
-use Rattle·promise.specs.Promise as relation
-use Rattle·promise.specs.Rounds.{Ended, censusOf, Runs}
-use Rattle·promise.specs.Rounds as promise
-use Rattle·promise.proofs.Ends.{rounds-main, rounds-true, rounds-still}
-use Rattle·promise.proofs.Others.{rounds-stays, rounds-found, rounds-stamps, rounds-fresh, rounds-nothing}
-use Rattle·promise.proofs.Later.{turn-later}
-use Rattle·play·specs.Play.{World, Entry, play, cleaning}
-use Rattle·play·specs.Seen.{msgIn, msgsSeen, seen}
-use Rattle·play·specs.Promise.{Has, SameMatters, Safe, AlwaysSafe}
-use Rattle·play·proofs.Sending.{msg-seen}
-use Rattle·play·proofs.Frame.{Way}
-use Rattle·play·proofs.Programs.{truth}
-use Rattle·play·proofs.Cleaning.{untruth}
-use Rattle·play·proofs.Rounding.{all-agreed}
-use Rattle·play·proofs.Tracking.{Kept, kept, way-play, runs-on}
+use Rattle.std.proofs.Common.{◌≡◌, ℕ, ◌<◌, ◌≤◌, Bool, true, leb, ◌⊎◌, List, [], ◌∷◌, Ok, Err, Result, sym, refl, ap, ◌∙◌, subst, inl, inr, ⊎_elim, arith}
+use mathlib.Core.List.Memᴰ
+use mathlib.Core.List.{Memᴰ}
+use Rattle.std.proofs.lemmas.Bool.{and_parts, leb-true}
+use Rattle.wire.specs.declared.message.Message.{Message}
+use Rattle.wire.specs.declared.message.Message.TheVariants as message
+use Rattle.wire.specs.declared.refusal.Refusal.{Refusal}
+use Rattle.wire.specs.Names.{house, name}
+use Rattle.wire.specs.Format.{decode}
+use Rattle.lines.specs.Stamping.{stamp}
+use Rattle.rounds.specs.Model.{agreed, all_agree}
+use Rattle.rules.specs.House.{census}
+use Rattle.promise.specs.Net.{Msg, Give}
+use Rattle.promise.specs.Net as net
+use Rattle.promise.specs.Promise as relation
+use Rattle.promise.specs.Rounds.{Ended, census_of, Runs}
+use Rattle.promise.specs.Rounds as promise
+use Rattle.promise.proofs.Ends.{rounds_main, rounds_true, rounds_still}
+use Rattle.promise.proofs.Others.{rounds_stays, rounds_found, rounds_stamps, rounds_fresh, rounds_nothing}
+use Rattle.promise.proofs.Later.{turn_later}
+use Rattle.play.specs.Play.{World, Entry, play, cleaning}
+use Rattle.play.specs.Seen.{msg_in, msgs_seen, seen}
+use Rattle.play.specs.Promise.{Has, SameMatters, Safe, AlwaysSafe}
+use Rattle.play.proofs.Sending.{msg_seen}
+use Rattle.play.proofs.Frame.{Way}
+use Rattle.play.proofs.Programs.{truth}
+use Rattle.play.proofs.Cleaning.{untruth}
+use Rattle.play.proofs.Rounding.{all_agreed}
+use Rattle.play.proofs.Tracking.{Kept, kept, way_play, runs_on}
 
 -- what matters to the relation, and what matters
-pub has-seen : (n : ℕ) (w : World) {j o : ℕ} → Has n w j o → relation.Has (seen n w .net) j o
-has-seen n w (Has.root m) = relation.Has.root (truth m)
-has-seen n w (Has.coming {j = j} {o = o} s bs m d lt) = relation.Has.coming (msg-seen n (w .sent) bs (message.Give (name o) (house j) (stamp s)) (Give o j s) m d (List·Memᴰ·head refl)) lt
-has-seen n w (Has.field h p m) = relation.Has.field (has-seen n w h) (truth p) (truth m)
+pub has_seen : (n : ℕ) (w : World) {j o : ℕ} → Has n w j o → relation.Has (seen n w).net j o
+has_seen n w (Has.root m) = relation.Has.root (truth m)
+has_seen n w (Has.coming {j = j} {o = o} s bs m d lt) = relation.Has.coming (msg_seen n w.sent bs (message.Give (name o) (house j) (stamp s)) (Give o j s) m d (Memᴰ.head refl)) lt
+has_seen n w (Has.field h p m) = relation.Has.field (has_seen n w h) (truth p) (truth m)
 
 abbrev IsGive : Msg → Type 0
 IsGive (net.Ask o i j) = ⊥
@@ -49,84 +43,84 @@ IsGive (net.Mark c o i) = ⊥
 IsGive (net.Sweep c) = ⊥
 
 -- the give that is seen is one of the messages that were sent
-give-of : (n : ℕ) (o j s : ℕ) (bss : List (List ℕ)) → List·Memᴰ (Give o j s) (msgsSeen n bss) → (bs : List ℕ) × List·Memᴰ bs bss × (decode n bs ≡ Ok (message.Give (name o) (house j) (stamp s)))
-give-of n o j s [] m = absurd (List·Memᴰ·not-nil m)
-give-of n o j s (b ∷ bss) m = ⊎-elim (λ z. (b, List·Memᴰ·head refl, here (decode n b) refl z)) (λ z. let r = give-of n o j s bss z in (r .0, List·Memᴰ·tail (r .1), r .2)) (List·Memᴰ·append-cases (msgIn (decode n b) b) m)
+give_of_sent : (n : ℕ) (o j s : ℕ) (bss : List (List ℕ)) → Memᴰ (Give o j s) (msgs_seen n bss) → (bs : List ℕ) × Memᴰ bs bss × (decode n bs ≡ Ok (message.Give (name o) (house j) (stamp s)))
+give_of_sent n o j s [] m = absurd (Memᴰ.not-nil m)
+give_of_sent n o j s (b ∷ bss) m = ⊎_elim (λ z. (b, Memᴰ.head refl, here (decode n b) refl z)) (λ z. let r = give_of_sent n o j s bss z in (r.0, Memᴰ.tail r.1, r.2)) (Memᴰ.append_cases (msg_in (decode n b) b) m)
   where
-    only : (x y : Msg) → List·Memᴰ x (y ∷ []) → x ≡ y
-    only x y z = ⊎-elim (λ e. e) (λ e. absurd (List·Memᴰ·not-nil e)) (List·Memᴰ·cases-cons z)
+    only : (x y : Msg) → Memᴰ x (y ∷ []) → x ≡ y
+    only x y z = ⊎_elim (λ e. e) (λ e. absurd (Memᴰ.not-nil e)) (Memᴰ.cases_cons z)
 
     same : (o1 j1 s1 o2 j2 s2 : ℕ) → Give o1 j1 s1 ≡ Give o2 j2 s2 → (o1 ≡ o2) × (j1 ≡ j2) × (s1 ≡ s2)
     same o1 j1 s1 o2 j2 s2 e = (cc, cc, cc)
 
-    here : (r : Result Message Refusal) → decode n b ≡ r → List·Memᴰ (Give o j s) (msgIn r b) → decode n b ≡ Ok (message.Give (name o) (house j) (stamp s))
-    here (Err e) d z = absurd (List·Memᴰ·not-nil z)
-    here (Ok (message.Ask x by to)) d z = absurd (subst IsGive (only (Give o j s) (net.Ask (x .0) (by .0) (to .0)) z) tt)
+    here : (r : Result Message Refusal) → decode n b ≡ r → Memᴰ (Give o j s) (msg_in r b) → decode n b ≡ Ok (message.Give (name o) (house j) (stamp s))
+    here (Err e) d z = absurd (Memᴰ.not-nil z)
+    here (Ok (message.Ask x by to)) d z = absurd (subst IsGive (only (Give o j s) (net.Ask x.0 by.0 to.0) z) tt)
     here (Ok (message.Give x to t)) d z =
-        let e = same o j s (x .0) (to .0) (t .0) (only (Give o j s) (Give (x .0) (to .0) (t .0)) z) in
-        d ∙ ap (λ (q : ℕ). Ok (message.Give (name q) to t)) (sym (e .0)) ∙ ap (λ (q : ℕ). Ok (message.Give (name o) (house q) t)) (sym (e .1)) ∙ ap (λ (q : ℕ). Ok (message.Give (name o) (house j) (stamp q))) (sym (e .2))
-    here (Ok (message.Word from to t p)) d z = absurd (subst IsGive (only (Give o j s) (net.Word (from .0) (to .0) _ (t .0)) z) tt)
-    here (Ok (message.Telling c x from)) d z = absurd (subst IsGive (only (Give o j s) (net.Mark (c .0) (x .0) (from .0)) z) tt)
-    here (Ok (message.Answer c x from)) d z = absurd (List·Memᴰ·not-nil z)
-    here (Ok (message.Round c r)) d z = absurd (List·Memᴰ·not-nil z)
-    here (Ok (message.Reply c r from calm t)) d z = absurd (List·Memᴰ·not-nil z)
-    here (Ok (message.Complete c)) d z = absurd (subst IsGive (only (Give o j s) (net.Sweep (c .0)) z) tt)
+        let e = same o j s x.0 to.0 t.0 (only (Give o j s) (Give x.0 to.0 t.0) z) in
+        d ∙ ap (λ (q : ℕ). Ok (message.Give (name q) to t)) (sym e.0) ∙ ap (λ (q : ℕ). Ok (message.Give (name o) (house q) t)) (sym e.1) ∙ ap (λ (q : ℕ). Ok (message.Give (name o) (house j) (stamp q))) (sym e.2)
+    here (Ok (message.Word from to t p)) d z = absurd (subst IsGive (only (Give o j s) (net.Word from.0 to.0 _ t.0) z) tt)
+    here (Ok (message.Telling c x from)) d z = absurd (subst IsGive (only (Give o j s) (net.Mark c.0 x.0 from.0) z) tt)
+    here (Ok (message.Answer c x from)) d z = absurd (Memᴰ.not-nil z)
+    here (Ok (message.Round c r)) d z = absurd (Memᴰ.not-nil z)
+    here (Ok (message.Reply c r from calm t)) d z = absurd (Memᴰ.not-nil z)
+    here (Ok (message.Complete c)) d z = absurd (subst IsGive (only (Give o j s) (net.Sweep c.0) z) tt)
 
-pub has-back : (n : ℕ) (w : World) {j o : ℕ} → relation.Has (seen n w .net) j o → Has n w j o
-has-back n w (relation.Has.root m) = Has.root (untruth m)
-has-back n w (relation.Has.coming {j = j} {o = o} {s = s} m lt) = let z = give-of n o j s (w .sent) m in Has.coming s (z .0) (z .1) (z .2) lt
-has-back n w (relation.Has.field h p m) = Has.field (has-back n w h) (untruth p) (untruth m)
+pub has_back : (n : ℕ) (w : World) {j o : ℕ} → relation.Has (seen n w).net j o → Has n w j o
+has_back n w (relation.Has.root m) = Has.root (untruth m)
+has_back n w (relation.Has.coming {j = j} {o = o} {s = s} m lt) = let z = give_of_sent n o j s w.sent m in Has.coming s z.0 z.1 z.2 lt
+has_back n w (relation.Has.field h p m) = Has.field (has_back n w h) (untruth p) (untruth m)
 
-ended-by : (n : ℕ) (w : World) → 0 < n → agreed n (w .house 0 .desk) ≡ true → Ended n (seen n w .desk)
-ended-by n w some e =
-    let a = and-parts (leb 2 (w .house 0 .desk .round)) (allAgree n (w .house 0 .desk .now) (w .house 0 .desk .before)) e in
-    record { somebody = some; second = leb-true 2 (w .house 0 .desk .round) (a .0); same = all-agreed n (w .house 0 .desk .now) (w .house 0 .desk .before) (a .1) }
+ended_by : (n : ℕ) (w : World) → 0 < n → agreed n (w.house 0).desk ≡ true → Ended n (seen n w).desk
+ended_by n w some e =
+    let a = and_parts (leb 2 (w.house 0).desk.round) (all_agree n (w.house 0).desk.now (w.house 0).desk.before) e in
+    record { somebody = some; second = leb-true 2 (w.house 0).desk.round a.0; same = all_agreed n (w.house 0).desk.now (w.house 0).desk.before a.1 }
 
 -- a census never falls, so between two moments in the same census there is no other
-way-later : {b : Bool} {n : ℕ} {w v : promise.World} → Runs n w → Way b n w v → (i : ℕ) → censusOf w i ≤ censusOf v i
-way-later r Way.same i = omega arith
-way-later r (Way.more l t c) i = both (way-later r l i) (turn-later (runs-on r l) t i)
+way_later : {b : Bool} {n : ℕ} {w v : promise.World} → Runs n w → Way b n w v → (i : ℕ) → census_of w i ≤ census_of v i
+way_later r Way.same i = omega arith
+way_later r (Way.more l t c) i = both (way_later r l i) (turn_later (runs_on r l) t i)
   where
     both : {x y z : ℕ} → x ≤ y → y ≤ z → x ≤ z
     both p q = omega arith
 
-way-stays : {b : Bool} {n : ℕ} (c : ℕ) {w v : promise.World} → n ≤ 16 → Runs n w → net.Complete n c (w .net) → Way b n w v → ((i : ℕ) → i < n → censusOf v i ≡ c) → net.Complete n c (v .net)
-way-stays c few r k Way.same all = k
-way-stays {b} {n} c {w} few r k (Way.more {v = v} {u = u} l t g) all = rounds-stays n c few v u (runs-on r l) (way-stays c few r k l middle) t all
+way_stays : {b : Bool} {n : ℕ} (c : ℕ) {w v : promise.World} → n ≤ 16 → Runs n w → net.Complete n c w.net → Way b n w v → ((i : ℕ) → i < n → census_of v i ≡ c) → net.Complete n c v.net
+way_stays c few r k Way.same all = k
+way_stays {b} {n} c {w} few r k (Way.more {v = v} {u = u} l t g) all = rounds_stays n c few v u (runs_on r l) (way_stays c few r k l middle) t all
   where
     level : {x y z : ℕ} → x ≡ c → x ≤ y → y ≤ z → z ≡ c → y ≡ c
     level p q s e = omega arith
 
-    middle : (i : ℕ) → i < n → censusOf v i ≡ c
-    middle i lt = level (k .all i lt) (way-later r l i) (turn-later (runs-on r l) t i) (all i lt)
+    middle : (i : ℕ) → i < n → census_of v i ≡ c
+    middle i lt = level (k.all i lt) (way_later r l i) (turn_later (runs_on r l) t i) (all i lt)
 
 -- along the collector's steps the same references matter
-pub way-nothing : {n : ℕ} {w v : promise.World} → n ≤ 16 → Runs n w → Way true n w v → (j o : ℕ) → (relation.Has (w .net) j o → relation.Has (v .net) j o) × (relation.Has (v .net) j o → relation.Has (w .net) j o)
-way-nothing few r Way.same j o = (λ h. h, λ h. h)
-way-nothing {n} few r (Way.more {v = v} {u = u} l t g) j o =
-    let a = way-nothing few r l j o in
-    let b = rounds-nothing n few v u (runs-on r l) t (g refl) j o in
-    (λ h. b .0 (a .0 h), λ h. a .1 (b .1 h))
+pub way_nothing : {n : ℕ} {w v : promise.World} → n ≤ 16 → Runs n w → Way true n w v → (j o : ℕ) → (relation.Has w.net j o → relation.Has v.net j o) × (relation.Has v.net j o → relation.Has w.net j o)
+way_nothing few r Way.same j o = (λ h. h, λ h. h)
+way_nothing {n} few r (Way.more {v = v} {u = u} l t g) j o =
+    let a = way_nothing few r l j o in
+    let b = rounds_nothing n few v u (runs_on r l) t (g refl) j o in
+    (λ h. b.0 (a.0 h), λ h. a.1 (b.1 h))
 
-pub same-matters : (n : ℕ) (w : World) → Kept n w → (e : Entry) → cleaning n e w ≡ true → SameMatters n w (play n e w)
-same-matters n w k e c j o =
-    let z = way-nothing (k .few) (k .runs) (subst (λ (b : Bool). Way b n (seen n w) (seen n (play n e w))) c (way-play n e w k)) j o in
-    (λ h. has-back n (play n e w) (z .0 (has-seen n w h)), λ h. has-back n w (z .1 (has-seen n (play n e w) h)))
+pub same_matters : (n : ℕ) (w : World) → Kept n w → (e : Entry) → cleaning n e w ≡ true → SameMatters n w (play n e w)
+same_matters n w k e c j o =
+    let z = way_nothing k.few k.runs (subst (λ (b : Bool). Way b n (seen n w) (seen n (play n e w))) c (way_play n e w k)) j o in
+    (λ h. has_back n (play n e w) (z.0 (has_seen n w h)), λ h. has_back n w (z.1 (has_seen n (play n e w) h)))
 
 pub safe : (n : ℕ) (w : World) → 0 < n → Kept n w → Safe n w
 safe n w some k =
     record {
-      there = λ j o h. let z = rounds-main n (k .few) (seen n w) (k .runs) j o (has-seen n w h) in record { present-at-home = untruth (z .present-at-home); known = ⊎-elim (λ e. inl e) (λ e. inr (untruth e)) (z .known) };
-      sound = k .sound;
-      stamps = λ j i. rounds-stamps n (k .few) (seen n w) (k .runs) j i;
-      fresh = λ o a. rounds-fresh n (k .few) (seen n w) (k .runs) .0 o a;
-      once = λ i o e. rounds-fresh n (k .few) (seen n w) (k .runs) .1 i o (truth e);
-      truly = λ e. rounds-true n (k .few) (seen n w) (k .runs) (ended-by n w some e);
-      still = λ e all. rounds-still n (k .few) (seen n w) (k .runs) (ended-by n w some e) all;
-      found = λ c m j o h. ⊎-elim (λ e. inl e) (λ e. inr (untruth e)) (rounds-found n c (k .few) (seen n w) (k .runs) m j o (has-seen n w h));
-      stays = λ c m e all. way-stays c (k .few) (k .runs) m (way-play n e w k) all;
-      nothing = λ e c. same-matters n w k e c;
+      there = λ j o h. let z = rounds_main n k.few (seen n w) k.runs j o (has_seen n w h) in record { present_at_home = untruth z.present_at_home; known = ⊎_elim (λ e. inl e) (λ e. inr (untruth e)) z.known };
+      sound = k.sound;
+      stamps = λ j i. rounds_stamps n k.few (seen n w) k.runs j i;
+      fresh = λ o a. (rounds_fresh n k.few (seen n w) k.runs).0 o a;
+      once = λ i o e. (rounds_fresh n k.few (seen n w) k.runs).1 i o (truth e);
+      truly = λ e. rounds_true n k.few (seen n w) k.runs (ended_by n w some e);
+      still = λ e all. rounds_still n k.few (seen n w) k.runs (ended_by n w some e) all;
+      found = λ c m j o h. ⊎_elim (λ e. inl e) (λ e. inr (untruth e)) (rounds_found n c k.few (seen n w) k.runs m j o (has_seen n w h));
+      stays = λ c m e all. way_stays c k.few k.runs m (way_play n e w k) all;
+      nothing = λ e c. same_matters n w k e c;
     }
 
-pub always-safe : AlwaysSafe
-always-safe n some few w r = safe n w some (kept n few r)
+pub always_safe : AlwaysSafe
+always_safe n some few w r = safe n w some (kept n few r)

@@ -1,36 +1,32 @@
 -- The collector's entries leave exactly what matters, if the census that all have joined ends with all lists swept.
-use mathlib.Core.Path.{_≡_, refl, sym, _∙_, subst}
-use mathlib.Core.Bool.{true}
-use mathlib.Core.List.{List, [], _∷_}
-use Prim.Native.Nat.{ℕ, _<_}
-use lib.Dec.{eqb}
-use Rattle·std.proofs.shelf.Tests.{or-left, eq-eqb}
-use Rattle·tables.specs.Model.{Object, present}
-use Rattle·census.specs.Model as census
-use Rattle·rules.specs.House as rules
-use Rattle·play·specs.Play.{World, Entry, plays}
-use Rattle·play·specs.Seen.{seen}
-use Rattle·play·specs.Exact.{Joined, Swept, Exactly, Settles, AlwaysSettles, NothingLeft}
-use Rattle·play·specs.Settle.{words, joins, above, completing, collects, andThen, settling}
-use Rattle·play·proofs.Tracking.{Kept, kept}
-use Rattle·play·proofs.Promise.{safe}
-use Rattle·play·proofs.FairEntries.{plays-append, kept-plays, way-plays, same-plays}
-use Rattle·play·proofs.FairPump.{cleanly-joins, cleanly-completing, cleanly-settling}
-use Rattle·play·proofs.FairSteps.{Fairly}
-use Rattle·play·proofs.FairWays.{fair-way, fair-first}
-use Rattle·play·proofs.SettledWords.{words-parts, words-heard}
-use Rattle·play·proofs.SettledJoins.{above-all, above-few, joins-all}
-use Rattle·play·proofs.SettledCollects.{collects-all}
+use Rattle.std.proofs.Common.{◌≡◌, ℕ, ◌<◌, true, eqb, List, [], ◌∷◌, sym, refl, ◌∙◌, subst}
+use Rattle.std.proofs.lemmas.Bool.{or_left, eq-eqb}
+use Rattle.tables.specs.Model.{Object, present}
+use Rattle.census.specs.Model as census
+use Rattle.rules.specs.House as rules
+use Rattle.play.specs.Play.{World, Entry, plays}
+use Rattle.play.specs.Seen.{seen}
+use Rattle.play.specs.Exact.{Joined, Swept, Exactly, Settles, AlwaysSettles, NothingLeft}
+use Rattle.play.specs.Settle.{words, joins, above, completing, collects, and_then, settling}
+use Rattle.play.proofs.Tracking.{Kept, kept}
+use Rattle.play.proofs.Promise.{safe}
+use Rattle.play.proofs.FairEntries.{plays_append, kept_plays, way_plays, same_plays}
+use Rattle.play.proofs.FairPump.{cleanly_joins, cleanly_completing, cleanly_settling}
+use Rattle.play.proofs.FairSteps.{Fairly}
+use Rattle.play.proofs.FairWays.{fair_way, fair_first}
+use Rattle.play.proofs.SettledWords.{words_parts, words_heard}
+use Rattle.play.proofs.SettledJoins.{above_all, above_few, joins_all}
+use Rattle.play.proofs.SettledCollects.{collects_all}
 
 -- some entries, and what is then to be done, one after the other
-then-plays : (n : ℕ) (w : World) (es : List Entry) (f : World → List Entry) → plays n (andThen n w es f) w ≡ plays n (f (plays n es w)) (plays n es w)
-then-plays n w es f = plays-append n es (f (plays n es w)) w
+then_plays : (n : ℕ) (w : World) (es : List Entry) (f : World → List Entry) → plays n (and_then n w es f) w ≡ plays n (f (plays n es w)) (plays n es w)
+then_plays n w es f = plays_append n es (f (plays n es w)) w
 
 -- a census that all have joined ends with all lists swept
 abbrev pub Completes : Type 0
 Completes = (n c : ℕ) (w : World) → 0 < n → Kept n w → Joined n c w → Swept n c (plays n (completing n w) w)
 
-module _ (n : ℕ) (w : World) (some : 0 < n) (k : Kept n w) (low : (i : ℕ) → i < n → rules.census (w .house i) < 4294967295) where
+module _ (n : ℕ) (w : World) (some : 0 < n) (k : Kept n w) (low : (i : ℕ) → i < n → rules.census (w.house i) < 4294967295) where
   abbrev told : World
   told = plays n (words n w) w
 
@@ -43,56 +39,56 @@ module _ (n : ℕ) (w : World) (some : 0 < n) (k : Kept n w) (low : (i : ℕ) �
   abbrev ended : World
   ended = plays n (completing n joined) joined
 
-  kept-told : Kept n told
-  kept-told = kept-plays n (words n w) w k
+  kept_told : Kept n told
+  kept_told = kept_plays n (words n w) w k
 
-  kept-joined : Kept n joined
-  kept-joined = kept-plays n (joins n c told) told kept-told
+  kept_joined : Kept n joined
+  kept_joined = kept_plays n (joins n c told) told kept_told
 
-  fair-told : Fairly n c (seen n told .net)
-  fair-told = fair-first c (kept-told .runs) (words-heard n w k) (above-all n told)
+  fair_told : Fairly n c (seen n told).net
+  fair_told = fair_first c kept_told.runs (words_heard n w k) (above_all n told)
 
-  fair-joined : Fairly n c (seen n joined .net)
-  fair-joined = fair-way (kept-told .runs) (way-plays n (joins n c told) told kept-told (cleanly-joins n c told kept-told)) fair-told
+  fair_joined : Fairly n c (seen n joined).net
+  fair_joined = fair_way kept_told.runs (way_plays n (joins n c told) told kept_told (cleanly_joins n c told kept_told)) fair_told
 
-  fair-ended : Fairly n c (seen n ended .net)
-  fair-ended = fair-way (kept-joined .runs) (way-plays n (completing n joined) joined kept-joined (cleanly-completing n joined kept-joined)) fair-joined
+  fair_ended : Fairly n c (seen n ended).net
+  fair_ended = fair_way kept_joined.runs (way_plays n (completing n joined) joined kept_joined (cleanly_completing n joined kept_joined)) fair_joined
 
   -- all have joined a census above all
-  pub all-joined : Joined n c joined
-  all-joined =
-      joins-all n c told some kept-told (above-few n told (λ i l. subst (λ (p : census.Part). p .census < 4294967295) (sym (words-parts n w k i)) (low i l))) (above-all n told)
+  pub all_joined : Joined n c joined
+  all_joined =
+      joins_all n c told some kept_told (above_few n told (λ i l. subst (λ (p : census.Part). p.census < 4294967295) (sym (words_parts n w k i)) (low i l))) (above_all n told)
 
   whole : plays n (settling n w) w ≡ plays n (collects n ended) ended
   whole =
-      then-plays n w (words n w) (λ v. andThen n v (joins n (above n v) v) (λ u. andThen n u (completing n u) (λ t. collects n t)))
-      ∙ then-plays n told (joins n c told) (λ u. andThen n u (completing n u) (λ t. collects n t))
-      ∙ then-plays n joined (completing n joined) (λ t. collects n t)
+      then_plays n w (words n w) (λ v. and_then n v (joins n (above n v) v) (λ u. and_then n u (completing n u) (λ t. collects n t)))
+      ∙ then_plays n told (joins n c told) (λ u. and_then n u (completing n u) (λ t. collects n t))
+      ∙ then_plays n joined (completing n joined) (λ t. collects n t)
 
-  pub settles-from : Swept n c ended → Settles n w (plays n (settling n w) w)
-  settles-from swept =
+  pub settles_from : Swept n c ended → Settles n w (plays n (settling n w) w)
+  settles_from swept =
       record {
-        exact = subst (λ (v : World). Exactly n v) (sym whole) (collects-all n c ended (kept-plays n (completing n joined) joined kept-joined) swept fair-ended);
-        same = same-plays n (settling n w) w k (cleanly-settling n w k);
-        there = safe n (plays n (settling n w) w) some (kept-plays n (settling n w) w k) .there;
+        exact = subst (λ (v : World). Exactly n v) (sym whole) (collects_all n c ended (kept_plays n (completing n joined) joined kept_joined) swept fair_ended);
+        same = same_plays n (settling n w) w k (cleanly_settling n w k);
+        there = (safe n (plays n (settling n w) w) some (kept_plays n (settling n w) w k)).there;
       }
 
 -- from every world that is kept
-pub settles-kept : Completes → (n : ℕ) (w : World) → 0 < n → Kept n w → ((i : ℕ) → i < n → rules.census (w .house i) < 4294967295) → Settles n w (plays n (settling n w) w)
-settles-kept completes n w some k low =
+pub settles_kept : Completes → (n : ℕ) (w : World) → 0 < n → Kept n w → ((i : ℕ) → i < n → rules.census (w.house i) < 4294967295) → Settles n w (plays n (settling n w) w)
+settles_kept completes n w some k low =
     let v = plays n (words n w) w in
     let u = plays n (joins n (above n v) v) v in
-    settles-from n w some k low (completes n (above n v) u some (kept-plays n (joins n (above n v) v) v (kept-plays n (words n w) w k)) (all-joined n w some k low))
+    settles_from n w some k low (completes n (above n v) u some (kept_plays n (joins n (above n v) v) v (kept_plays n (words n w) w k)) (all_joined n w some k low))
 
 pub settles : Completes → AlwaysSettles
-settles completes n some few w r low = settles-kept completes n w some (kept n few r) low
+settles completes n some few w r low = settles_kept completes n w some (kept n few r) low
 
 -- where nothing is present there is no object
-none-present : (xs : List Object) → ((o : ℕ) → present o xs ≡ true → ⊥) → xs ≡ []
-none-present [] f = refl
-none-present (x ∷ xs) f = absurd (f (x .name) (or-left (eqb (x .name) (x .name)) (present (x .name) xs) (eq-eqb (x .name) (x .name) refl)))
+none_present : (xs : List Object) → ((o : ℕ) → present o xs ≡ true → ⊥) → xs ≡ []
+none_present [] f = refl
+none_present (x ∷ xs) f = absurd (f x.name (or_left (eqb x.name x.name) (present x.name xs) (eq-eqb x.name x.name refl)))
 
-pub nothing-left : AlwaysSettles → NothingLeft
-nothing-left s n some few w r low empty i l =
+pub nothing_left : AlwaysSettles → NothingLeft
+nothing_left s n some few w r low empty i l =
     let z = s n some few w r low in
-    none-present (plays n (settling n w) w .house i .heap .objects) (λ o e. let h = z .exact i o l e in empty (h .0) o (z .same (h .0) o .1 (h .1)))
+    none_present ((plays n (settling n w) w).house i).heap.objects (λ o e. let h = z.exact i o l e in empty h.0 o ((z.same h.0 o).1 h.1))

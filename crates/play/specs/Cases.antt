@@ -1,24 +1,17 @@
 -- Eight cases, each a script with every answer and with what the houses then hold, written down from the rules. Played, each comes out as it is written.
-use mathlib.Core.Path.{_≡_}
-use mathlib.Core.Bool.{Bool, true, false, cond, _&&_}
-use mathlib.Core.List.{List, [], _∷_, _++_, map}
-use Prim.Native.Nat.{ℕ}
-use lib.Dec.{ltb}
-use lib.ListN.{length, getD}
-use Rattle·std.specs.declared.result.Result.{Result}
-use Rattle·std.specs.declared.result.Result.the-variants.{Ok, Err}
-use Rattle·wire.specs.declared.call.Call.the-variants as call
-use Rattle·wire.specs.declared.message.Message.the-variants as message
-use Rattle·wire.specs.declared.refusal.Refusal.the-variants.{Malformed}
-use Rattle·wire.specs.Names.{house, name}
-use Rattle·wire.specs.Refusals.{numberOf}
-use Rattle·tables.specs.Model.{Object}
-use Rattle·lines.specs.Listed.{Listed, line}
-use Rattle·lines.specs.Stamping.{stamp}
-use Rattle·rules.specs.House.{House, census}
-use Rattle·rules.specs.Step.{Letter, Said, letter, bytesOf, came, step, eventOf}
-use Rattle·play·specs.Play.{World, Entry, calls, delivers, begin, play, plays}
-use Rattle·play·specs.Settle.{below}
+use Rattle.std.specs.Prelude.{◌≡◌, ℕ, Bool, true, false, cond, ◌&&◌, List, [], ◌∷◌, ◌++◌, map, length, Ok, Err, Result, nat_lt, slice_index_or}
+use Rattle.wire.specs.declared.call.Call.TheVariants as call
+use Rattle.wire.specs.declared.message.Message.TheVariants as message
+use Rattle.wire.specs.declared.refusal.Refusal.TheVariants.{Malformed}
+use Rattle.wire.specs.Names.{house, name}
+use Rattle.wire.specs.Refusals.{number_of}
+use Rattle.tables.specs.Model.{Object}
+use Rattle.lines.specs.Listed.{Listed, line}
+use Rattle.lines.specs.Stamping.{stamp}
+use Rattle.rules.specs.House.{House, census}
+use Rattle.rules.specs.Step.{Letter, Said, letter, bytes_of, came, step, event_of}
+use Rattle.play.specs.Play.{World, Entry, calls, delivers, begin, play, plays}
+use Rattle.play.specs.Settle.{below}
 
 -- what can be seen of a house: its census, its objects with their fields, its roots and its lines
 pub record Shown : Type 0 where
@@ -28,11 +21,11 @@ pub record Shown : Type 0 where
   pub lines : List Listed
 
 abbrev pub shown : House → Shown
-shown h = record { census = census h; objects = h .heap .objects; roots = h .heap .roots; lines = h .list }
+shown h = record { census = census h; objects = h.heap.objects; roots = h.heap.roots; lines = h.list }
 
 -- all of n houses, in order
-abbrev pub allShown : ℕ → World → List Shown
-allShown n w = map (λ i. shown (w .house i)) (below n)
+abbrev pub all_shown : ℕ → World → List Shown
+all_shown n w = map (λ i. shown (w.house i)) (below n)
 
 -- A turn of a script: an entry with the messages that the house sends, an entry with the number that it is refused by, or a look at all houses.
 pub data Turn : Type 0 where
@@ -42,29 +35,29 @@ pub data Turn : Type 0 where
 
 -- What a house answers to an entry. A house that is none of the n, and a message that was never sent, are turned away.
 abbrev pub answer : ℕ → Entry → World → Said
-answer n (calls i c) w = cond (ltb i n) (step (w .house i) (eventOf c) .answer) (Err Malformed)
-answer n (delivers i m) w = cond (ltb i n && ltb m (length (w .sent))) (step (w .house i) (came (getD (w .sent) m [])) .answer) (Err Malformed)
+answer n (calls i c) w = cond (nat_lt i n) (step (w.house i) (event_of c)).answer (Err Malformed)
+answer n (delivers i m) w = cond (nat_lt i n && nat_lt m (length w.sent)) (step (w.house i) (came (slice_index_or w.sent m []))).answer (Err Malformed)
 
 abbrev pub answered : Entry → Said → Turn
 answered e (Ok ls) = sends e ls
-answered e (Err r) = refused e (numberOf r)
+answered e (Err r) = refused e (number_of r)
 
 -- the same entries and looks, with what comes of them in place of what is written
 abbrev pub played : ℕ → List Turn → World → List Turn
 played n [] w = []
 played n (sends e ls ∷ ts) w = answered e (answer n e w) ∷ played n ts (play n e w)
 played n (refused e k ∷ ts) w = answered e (answer n e w) ∷ played n ts (play n e w)
-played n (shows hs ∷ ts) w = shows (allShown n w) ∷ played n ts w
+played n (shows hs ∷ ts) w = shows (all_shown n w) ∷ played n ts w
 
-abbrev pub entriesOf : List Turn → List Entry
-entriesOf [] = []
-entriesOf (sends e ls ∷ ts) = e ∷ entriesOf ts
-entriesOf (refused e k ∷ ts) = e ∷ entriesOf ts
-entriesOf (shows hs ∷ ts) = entriesOf ts
+abbrev pub entries_of : List Turn → List Entry
+entries_of [] = []
+entries_of (sends e ls ∷ ts) = e ∷ entries_of ts
+entries_of (refused e k ∷ ts) = e ∷ entries_of ts
+entries_of (shows hs ∷ ts) = entries_of ts
 
 -- wherever a script is cut, its second half goes on in the world that the entries of the first half lead to
 abbrev pub GoesOn : Type 0
-GoesOn = (n : ℕ) (ts us : List Turn) (w : World) → played n (ts ++ us) w ≡ played n ts w ++ played n us (plays n (entriesOf ts) w)
+GoesOn = (n : ℕ) (ts us : List Turn) (w : World) → played n (ts ++ us) w ≡ played n ts w ++ played n us (plays n (entries_of ts) w)
 
 -- so many houses, with nothing in them at first, and a script
 pub record Case : Type 0 where
@@ -72,7 +65,7 @@ pub record Case : Type 0 where
   pub script : List Turn
 
 abbrev pub rehearsed : Case → Case
-rehearsed c = record { houses = c .houses; script = played (c .houses) (c .script) (begin (c .houses)) }
+rehearsed c = record { houses = c.houses; script = played c.houses c.script (begin c.houses) }
 
 -- the calls, each at house i
 abbrev pub make : ℕ → ℕ → Entry
@@ -110,7 +103,7 @@ abbrev pub giving : ℕ → ℕ → ℕ → Letter
 giving o j s = letter (message.Give (name o) (house j) (stamp s))
 
 abbrev pub wording : ℕ → ℕ → ℕ → List ℕ → Letter
-wording from to s os = (message.Word (house from) (house to) (stamp s) (record { at = 9; count = length os }), bytesOf os)
+wording from to s os = (message.Word (house from) (house to) (stamp s) (record { at = 9; count = length os }), bytes_of os)
 
 abbrev pub telling : ℕ → ℕ → ℕ → Letter
 telling c o from = letter (message.Telling (record { 0 = c }) (name o) (house from))
@@ -158,8 +151,8 @@ abbrev pub listed : List Turn
 listed = given ++ shows (holding 0 (object 16 [] ∷ []) (16 ∷ []) (line 16 1 1 0 ∷ []) ∷ bare 0 ∷ bare 0 ∷ []) ∷ []
 
 -- only house 1 has 16, and the line keeps it
-abbrev pub heldAfar : Turn
-heldAfar = shows (holding 0 (object 16 [] ∷ []) [] (line 16 1 1 0 ∷ []) ∷ holding 0 [] (16 ∷ []) [] ∷ bare 0 ∷ [])
+abbrev pub held_afar : Turn
+held_afar = shows (holding 0 (object 16 [] ∷ []) [] (line 16 1 1 0 ∷ []) ∷ holding 0 [] (16 ∷ []) [] ∷ bare 0 ∷ [])
 
 -- house 1 takes it, house 0 drops it and collects
 abbrev pub taken : List Turn
@@ -167,12 +160,12 @@ taken =
     quiet (delivers 1 1)
     ∷ quiet (drop 0 16)
     ∷ quiet (collect 0)
-    ∷ heldAfar
+    ∷ held_afar
     ∷ []
 
 -- House 1 drops 16 and says so by a word, message m: stamp 1 is seen, and nothing is held. The line goes, and then the object.
-abbrev pub letGo : ℕ → List Turn
-letGo m =
+abbrev pub let_go : ℕ → List Turn
+let_go m =
     quiet (drop 1 16)
     ∷ says (word 1 0) (wording 1 0 1 [])
     ∷ quiet (delivers 0 m)
@@ -203,20 +196,20 @@ ring =
     ∷ []
 
 -- without that root the ring stands in two houses: only the lines, of census c, keep it
-abbrev pub ringAt : ℕ → ℕ → List Shown
-ringAt now c = holding now (object 16 (33 ∷ []) ∷ []) [] (line 16 1 1 c ∷ []) ∷ holding now (object 33 (16 ∷ []) ∷ []) [] (line 33 0 1 c ∷ []) ∷ []
+abbrev pub ring_at : ℕ → ℕ → List Shown
+ring_at now c = holding now (object 16 (33 ∷ []) ∷ []) [] (line 16 1 1 c ∷ []) ∷ holding now (object 33 (16 ∷ []) ∷ []) [] (line 33 0 1 c ∷ []) ∷ []
 
 -- the same, and house 2 has 16 as a root
-abbrev pub heldRingAt : ℕ → ℕ → List Shown
-heldRingAt now c =
+abbrev pub held_ring_at : ℕ → ℕ → List Shown
+held_ring_at now c =
     holding now (object 16 (33 ∷ []) ∷ []) [] (line 16 1 1 c ∷ line 16 2 1 c ∷ [])
     ∷ holding now (object 33 (16 ∷ []) ∷ []) [] (line 33 0 1 c ∷ [])
     ∷ holding now [] (16 ∷ []) []
     ∷ []
 
 -- in census 1: 33, a root of house 0, leads to 16 by way of house 1; the line of 33 was marked, that of 16 has number c
-abbrev pub chainAt : ℕ → List Shown
-chainAt c = holding 1 (object 16 [] ∷ []) (33 ∷ []) (line 16 1 1 c ∷ []) ∷ holding 1 (object 33 (16 ∷ []) ∷ []) [] (line 33 0 1 1 ∷ []) ∷ []
+abbrev pub chain_at : ℕ → List Shown
+chain_at c = holding 1 (object 16 [] ∷ []) (33 ∷ []) (line 16 1 1 c ∷ []) ∷ holding 1 (object 33 (16 ∷ []) ∷ []) [] (line 33 0 1 1 ∷ []) ∷ []
 
 -- THE CASES. Names: 16 is number 1 of house 0, 33 is number 2 of house 1. A message goes by its place among all that were sent, from 0.
 abbrev pub cases : List Case
@@ -224,14 +217,14 @@ cases =
     -- A: what is handed over stays while the other house holds it
     record { houses = 3; script = listed ++ taken }
     -- B: when that house says that it has it no more, it is freed
-    ∷ record { houses = 3; script = listed ++ (taken ++ letGo 2) }
+    ∷ record { houses = 3; script = listed ++ (taken ++ let_go 2) }
     -- C: a word that was sent before the give was taken has stamp 0; heard after the take, it takes nothing away
     ∷ record {
       houses = 3;
       script =
           listed
           ++ says (word 1 0) (wording 1 0 0 [])
-          ∷ (taken ++ quiet (delivers 0 2) ∷ quiet (collect 0) ∷ heldAfar ∷ []);
+          ∷ (taken ++ quiet (delivers 0 2) ∷ quiet (collect 0) ∷ held_afar ∷ []);
     }
     -- D: the give comes twice: the second is refused by 7, and brings nothing back that was dropped
     ∷ record {
@@ -240,7 +233,7 @@ cases =
           listed
           ++ (taken
           ++ refused (delivers 1 1) 7
-          ∷ heldAfar
+          ∷ held_afar
           ∷ quiet (drop 1 16)
           ∷ refused (delivers 1 1) 7
           ∷ shows (holding 0 (object 16 [] ∷ []) [] (line 16 1 1 0 ∷ []) ∷ bare 0 ∷ bare 0 ∷ [])
@@ -253,7 +246,7 @@ cases =
           listed
           ++ (taken
           ++ says (ask 1 16 2) (asking 16 1 2)
-          ∷ (letGo 3
+          ∷ (let_go 3
           ++ refused (delivers 0 2) 5
           ∷ shows (bare 0 ∷ bare 0 ∷ bare 0 ∷ [])
           ∷ []));
@@ -266,13 +259,13 @@ cases =
           ++ quiet (drop 0 16)
           ∷ quiet (collect 0)
           ∷ quiet (collect 1)
-          ∷ shows (ringAt 0 0)
+          ∷ shows (ring_at 0 0)
           -- both lines are heard of, so the join does not mark them; nothing is in use, and nothing is told
           ∷ quiet (join 0 1)
           ∷ quiet (join 1 1)
           ∷ quiet (tell 0)
           ∷ quiet (tell 1)
-          ∷ shows (ringAt 1 0)
+          ∷ shows (ring_at 1 0)
           -- round 1 is message 6, its replies are 7 and 8
           ∷ says (round 0) (polling 1 1)
           ∷ says (delivers 0 6) (replying 1 1 0 true 0)
@@ -307,11 +300,11 @@ cases =
           ∷ quiet (collect 0)
           ∷ quiet (collect 1)
           ∷ quiet (collect 2)
-          ∷ shows (heldRingAt 0 0)
+          ∷ shows (held_ring_at 0 0)
           ∷ quiet (join 0 1)
           ∷ quiet (join 1 1)
           ∷ quiet (join 2 1)
-          ∷ shows (heldRingAt 1 0)
+          ∷ shows (held_ring_at 1 0)
           -- at first only what house 2 has is in use: it tells of 16, then house 0 of 33, then house 1 of 16; messages 9 to 14
           ∷ quiet (tell 0)
           ∷ quiet (tell 1)
@@ -327,7 +320,7 @@ cases =
           ∷ quiet (tell 0)
           ∷ quiet (tell 1)
           ∷ quiet (tell 2)
-          ∷ shows (heldRingAt 1 1)
+          ∷ shows (held_ring_at 1 1)
           -- round 1 is message 15, its replies are 16 to 18; two lines were marked at house 0, one at house 1
           ∷ says (round 0) (polling 1 1)
           ∷ says (delivers 0 15) (replying 1 1 0 true 2)
@@ -350,7 +343,7 @@ cases =
           ∷ quiet (collect 0)
           ∷ quiet (collect 1)
           ∷ quiet (collect 2)
-          ∷ shows (heldRingAt 1 1)
+          ∷ shows (held_ring_at 1 1)
           ∷ [];
     }
     -- H: rounds 1 and 2 overlap with a handing over by a house that is not in the census yet: the house that took it says no to round 2, so that the census is not called complete before 16 is marked
@@ -388,10 +381,10 @@ cases =
           ∷ says (delivers 0 9) (replying 1 2 0 false 0)
           ∷ quiet (delivers 0 10)
           ∷ quiet (delivers 0 13)
-          ∷ shows (chainAt 0)
+          ∷ shows (chain_at 0)
           ∷ quiet (collect 0)
           ∷ quiet (collect 1)
-          ∷ shows (chainAt 0)
+          ∷ shows (chain_at 0)
           -- house 1 tells of 16 by message 14, and its line is marked; answered by 15
           ∷ says (tell 1) (telling 1 16 1)
           ∷ says (delivers 0 14) (answering 1 16 1)
@@ -412,7 +405,7 @@ cases =
           ∷ quiet (delivers 1 22)
           ∷ quiet (collect 0)
           ∷ quiet (collect 1)
-          ∷ shows (chainAt 1)
+          ∷ shows (chain_at 1)
           ∷ [];
     }
     ∷ []

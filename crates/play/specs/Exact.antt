@@ -1,30 +1,28 @@
 -- What is promised of the collector's entries: what they leave is exactly what matters.
-use mathlib.Core.Path.{_≡_}
-use mathlib.Core.Bool.{true}
-use mathlib.Core.List.{[], List·Memᴰ}
-use Prim.Native.Nat.{ℕ, _<_, _≤_}
-use Rattle·tables.specs.Model.{present}
-use Rattle·lines.specs.Listed.{Listed}
-use Rattle·census.specs.Model.{fresh}
-use Rattle·rounds.specs.Model.{idle}
-use Rattle·rules.specs.House.{census}
-use Rattle·play·specs.Play.{World, plays, Reach}
-use Rattle·play·specs.Promise.{Has, There, SameMatters}
-use Rattle·play·specs.Settle.{settling}
+use Rattle.std.specs.Prelude.{◌≡◌, ℕ, ◌<◌, ◌≤◌, true, []}
+use mathlib.Core.List.{Memᴰ}
+use Rattle.tables.specs.Model.{present}
+use Rattle.lines.specs.Listed.{Listed}
+use Rattle.census.specs.Model.{fresh}
+use Rattle.rounds.specs.Model.{idle}
+use Rattle.rules.specs.House.{census}
+use Rattle.play.specs.Play.{World, plays, Reach}
+use Rattle.play.specs.Promise.{Has, There, SameMatters}
+use Rattle.play.specs.Settle.{settling}
 
 -- all houses have joined census c, and nothing was told or asked in it yet
 pub record Joined (n c : ℕ) (w : World) : Type 0 where
-  pub census : (i : ℕ) → i < n → census (w .house i) ≡ c
-  pub part : (i : ℕ) → i < n → w .house i .part ≡ fresh c
-  pub desk : w .house 0 .desk ≡ idle
+  pub census : (i : ℕ) → i < n → census (w.house i) ≡ c
+  pub part : (i : ℕ) → i < n → (w.house i).part ≡ fresh c
+  pub desk : (w.house 0).desk ≡ idle
 
 -- all houses are in census c, and so is every line
 abbrev pub Swept : ℕ → ℕ → World → Type 0
-Swept n c w = (i : ℕ) → i < n → (census (w .house i) ≡ c) × ((e : Listed) → List·Memᴰ e (w .house i .list) → e .census ≡ c)
+Swept n c w = (i : ℕ) → i < n → (census (w.house i) ≡ c) × ((e : Listed) → Memᴰ e (w.house i).list → e.census ≡ c)
 
 -- what is present matters
 abbrev pub Exactly : ℕ → World → Type 0
-Exactly n w = (i o : ℕ) → i < n → present o (w .house i .heap .objects) ≡ true → (j : ℕ) × Has n w j o
+Exactly n w = (i o : ℕ) → i < n → present o (w.house i).heap.objects ≡ true → (j : ℕ) × Has n w j o
 
 -- from w to v: what is present matters, the same references matter as before, and whatever matters is there
 pub record Settles (n : ℕ) (w v : World) : Type 0 where
@@ -35,10 +33,10 @@ pub record Settles (n : ℕ) (w v : World) : Type 0 where
 -- the collector's entries leave exactly what matters, from every world in which a census number above all is left
 abbrev pub AlwaysSettles : Type 0
 AlwaysSettles =
-    (n : ℕ) → 0 < n → n ≤ 16 → (w : World) → Reach n w → ((i : ℕ) → i < n → census (w .house i) < 4294967295) → Settles n w (plays n (settling n w) w)
+    (n : ℕ) → 0 < n → n ≤ 16 → (w : World) → Reach n w → ((i : ℕ) → i < n → census (w.house i) < 4294967295) → Settles n w (plays n (settling n w) w)
 
 -- and nothing, where nothing matters
 abbrev pub NothingLeft : Type 0
 NothingLeft =
-    (n : ℕ) → 0 < n → n ≤ 16 → (w : World) → Reach n w → ((i : ℕ) → i < n → census (w .house i) < 4294967295) →
-    ((j o : ℕ) → Has n w j o → ⊥) → (i : ℕ) → i < n → plays n (settling n w) w .house i .heap .objects ≡ []
+    (n : ℕ) → 0 < n → n ≤ 16 → (w : World) → Reach n w → ((i : ℕ) → i < n → census (w.house i) < 4294967295) →
+    ((j o : ℕ) → Has n w j o → ⊥) → (i : ℕ) → i < n → ((plays n (settling n w) w).house i).heap.objects ≡ []

@@ -1,20 +1,14 @@
 -- Houses over a network that loses, repeats, delays and reorders: any list of calls, and of deliveries of what was sent.
-use mathlib.Core.Bool.{Bool, true, false, cond, _&&_}
-use mathlib.Core.List.{List, [], _∷_, _++_, map}
-use Prim.Native.Nat.{ℕ}
-use lib.Dec.{eqb, ltb}
-use lib.ListN.{length, getD}
-use Rattle·std.specs.declared.result.Result.{Result}
-use Rattle·std.specs.declared.result.Result.the-variants.{Ok, Err}
-use Rattle·wire.specs.declared.call.Call.{Call}
-use Rattle·wire.specs.declared.call.Call.the-variants as call
-use Rattle·wire.specs.declared.message.Message.{Message}
-use Rattle·wire.specs.declared.message.Message.the-variants as message
-use Rattle·wire.specs.declared.refusal.Refusal.{Refusal}
-use Rattle·wire.specs.declared.refusal.Refusal.the-variants.{Malformed}
-use Rattle·wire.specs.Format.{encode, decode}
-use Rattle·rules.specs.House.{House, empty}
-use Rattle·rules.specs.Step.{Letter, Said, Event, came, step, eventOf}
+use Rattle.std.specs.Prelude.{ℕ, Bool, true, false, cond, ◌&&◌, List, [], ◌∷◌, ◌++◌, map, length, Ok, Err, Result, ◌==◌, nat_lt, slice_index_or}
+use Rattle.wire.specs.declared.call.Call.{Call}
+use Rattle.wire.specs.declared.call.Call.TheVariants as call
+use Rattle.wire.specs.declared.message.Message.{Message}
+use Rattle.wire.specs.declared.message.Message.TheVariants as message
+use Rattle.wire.specs.declared.refusal.Refusal.{Refusal}
+use Rattle.wire.specs.declared.refusal.Refusal.TheVariants.{Malformed}
+use Rattle.wire.specs.Format.{encode, decode}
+use Rattle.rules.specs.House.{House, empty}
+use Rattle.rules.specs.Step.{Letter, Said, Event, came, step, event_of}
 
 -- the houses, and the bytes of all that was ever sent, in the order of sending
 pub record World : Type 0 where
@@ -32,29 +26,29 @@ begin n = record { house = λ i. empty i n; sent = [] }
 
 -- house i becomes h, the others stay
 abbrev pub put : {A : Type 0} → ℕ → A → (ℕ → A) → ℕ → A
-put i h f j = cond (eqb j i) h (f j)
+put i h f j = cond (j == i) h (f j)
 
-abbrev pub bytesOf : Letter → List ℕ
-bytesOf l = encode (l .0) (l .1)
+abbrev pub bytes_of : Letter → List ℕ
+bytes_of l = encode l.0 l.1
 
 -- what an answer adds to all that was sent
 abbrev pub written : Said → List (List ℕ)
-written (Ok ls) = map bytesOf ls
+written (Ok ls) = map bytes_of ls
 written (Err e) = []
 
 -- something happens at house i
 abbrev pub happens : ℕ → Event → World → World
-happens i e w = record { house = put i (step (w .house i) e .house) (w .house); sent = w .sent ++ written (step (w .house i) e .answer) }
+happens i e w = record { house = put i (step (w.house i) e).house w.house; sent = w.sent ++ written (step (w.house i) e).answer }
 
 -- One entry. A house that is none of the n, and a message that was never sent, change nothing.
 abbrev pub play : ℕ → Entry → World → World
-play n (calls i c) w = cond (ltb i n) (happens i (eventOf c) w) w
-play n (delivers i m) w = cond (ltb i n && ltb m (length (w .sent))) (happens i (came (getD (w .sent) m [])) w) w
+play n (calls i c) w = cond (nat_lt i n) (happens i (event_of c) w) w
+play n (delivers i m) w = cond (nat_lt i n && nat_lt m (length w.sent)) (happens i (came (slice_index_or w.sent m [])) w) w
 
 -- what the house answers to an entry; where there is no such house or message, 1
 abbrev pub answered : ℕ → Entry → World → Said
-answered n (calls i c) w = cond (ltb i n) (step (w .house i) (eventOf c) .answer) (Err Malformed)
-answered n (delivers i m) w = cond (ltb i n && ltb m (length (w .sent))) (step (w .house i) (came (getD (w .sent) m [])) .answer) (Err Malformed)
+answered n (calls i c) w = cond (nat_lt i n) (step (w.house i) (event_of c)).answer (Err Malformed)
+answered n (delivers i m) w = cond (nat_lt i n && nat_lt m (length w.sent)) (step (w.house i) (came (slice_index_or w.sent m []))).answer (Err Malformed)
 
 -- entries one after the other
 abbrev pub plays : ℕ → List Entry → World → World
@@ -67,32 +61,32 @@ pub data Reach (n : ℕ) : World → Type 0 where
   more : {w : World} → Reach n w → (e : Entry) → Reach n (play n e w)
 
 -- the calls of the collector
-abbrev pub ofCollector : Call → Bool
-ofCollector (call.Make k) = false
-ofCollector (call.Link o p) = false
-ofCollector (call.Unlink o p) = false
-ofCollector (call.Load o p) = false
-ofCollector (call.Drop o) = false
-ofCollector (call.Ask o j) = false
-ofCollector call.Collect = true
-ofCollector (call.Word j) = true
-ofCollector (call.Join c) = true
-ofCollector call.Tell = true
-ofCollector call.Round = true
+abbrev pub of_collector : Call → Bool
+of_collector (call.Make k) = false
+of_collector (call.Link o p) = false
+of_collector (call.Unlink o p) = false
+of_collector (call.Load o p) = false
+of_collector (call.Drop o) = false
+of_collector (call.Ask o j) = false
+of_collector call.Collect = true
+of_collector (call.Word j) = true
+of_collector (call.Join c) = true
+of_collector call.Tell = true
+of_collector call.Round = true
 
 -- and its messages: all but those that hand a reference on
-abbrev pub forCollector : Result Message Refusal → Bool
-forCollector (Ok (message.Ask o by to)) = false
-forCollector (Ok (message.Give o to s)) = false
-forCollector (Ok (message.Word from to s p)) = true
-forCollector (Ok (message.Telling c o from)) = true
-forCollector (Ok (message.Answer c o from)) = true
-forCollector (Ok (message.Round c r)) = true
-forCollector (Ok (message.Reply c r from calm t)) = true
-forCollector (Ok (message.Complete c)) = true
-forCollector (Err e) = true
+abbrev pub for_collector : Result Message Refusal → Bool
+for_collector (Ok (message.Ask o by to)) = false
+for_collector (Ok (message.Give o to s)) = false
+for_collector (Ok (message.Word from to s p)) = true
+for_collector (Ok (message.Telling c o from)) = true
+for_collector (Ok (message.Answer c o from)) = true
+for_collector (Ok (message.Round c r)) = true
+for_collector (Ok (message.Reply c r from calm t)) = true
+for_collector (Ok (message.Complete c)) = true
+for_collector (Err e) = true
 
 -- an entry with which no program has anything to do
 abbrev pub cleaning : ℕ → Entry → World → Bool
-cleaning n (calls i c) w = ofCollector c
-cleaning n (delivers i m) w = forCollector (decode n (getD (w .sent) m []))
+cleaning n (calls i c) w = of_collector c
+cleaning n (delivers i m) w = for_collector (decode n (slice_index_or w.sent m []))

@@ -1,41 +1,37 @@
 -- What is promised of every play.
-use mathlib.Core.Path.{_≡_}
-use mathlib.Core.Logic.{_⊎_}
-use mathlib.Core.Bool.{true}
-use mathlib.Core.List.{List, List·Memᴰ}
-use Prim.Native.Nat.{ℕ, suc, _/_, _<_, _≤_}
-use Rattle·std.specs.declared.result.Result.the-variants.{Ok}
-use Rattle·wire.specs.declared.message.Message.the-variants.{Give}
-use Rattle·wire.specs.Names.{home, house, name}
-use Rattle·wire.specs.Format.{decode}
-use Rattle·tables.specs.Model.{isIn, present, fieldsOf}
-use Rattle·lines.specs.Listed.{listed, listedIn}
-use Rattle·lines.specs.Stamping.{stamp, givenTo, seenFrom, heardFrom}
-use Rattle·rounds.specs.Model.{agreed}
-use Rattle·rules.specs.House.{census}
-use Rattle·rules.specs.Sound.{Sound}
-use Rattle·promise.specs.House.{countOf}
-use Rattle·promise.specs.Net as net
-use Rattle·promise.specs.Promise.{Anywhere}
-use Rattle·promise.specs.Rounds.{censusOf, Runs, Later}
-use Rattle·promise.specs.Rounds as promise
-use Rattle·play·specs.Play.{World, Entry, play, cleaning, Reach}
-use Rattle·play·specs.Seen.{seen}
+use Rattle.std.specs.Prelude.{◌≡◌, ℕ, suc, ◌/◌, ◌<◌, ◌≤◌, true, ◌⊎◌, List, Ok}
+use mathlib.Core.List.{Memᴰ}
+use Rattle.wire.specs.declared.message.Message.TheVariants.{Give}
+use Rattle.wire.specs.Names.{home, house, name}
+use Rattle.wire.specs.Format.{decode}
+use Rattle.tables.specs.Model.{is_in, present, fields_of}
+use Rattle.lines.specs.Listed.{listed, listed_in}
+use Rattle.lines.specs.Stamping.{stamp, given_to, seen_from, heard_from}
+use Rattle.rounds.specs.Model.{agreed}
+use Rattle.rules.specs.House.{census}
+use Rattle.rules.specs.Sound.{Sound}
+use Rattle.promise.specs.House.{count_of}
+use Rattle.promise.specs.Net as net
+use Rattle.promise.specs.Promise.{Anywhere}
+use Rattle.promise.specs.Rounds.{census_of, Runs, Later}
+use Rattle.promise.specs.Rounds as promise
+use Rattle.play.specs.Play.{World, Entry, play, cleaning, Reach}
+use Rattle.play.specs.Seen.{seen}
 
 -- House j has a reference that matters: as a root, on its way to it, or in a field of an object of its own that somebody has a reference to that matters. A give is on its way as long as its stamp is above what the receiver has seen of the home.
 pub data Has (n : ℕ) (w : World) : ℕ → ℕ → Type 0 where
-  root : {j o : ℕ} → isIn o (w .house j .heap .roots) ≡ true → Has n w j o
-  coming : {j o : ℕ} (s : ℕ) (bs : List ℕ) → List·Memᴰ bs (w .sent) → decode n bs ≡ Ok (Give (name o) (house j) (stamp s)) → seenFrom (w .house j .stamps) (home o) < s → Has n w j o
-  field : {i o p : ℕ} → Has n w i o → present o (w .house (home o) .heap .objects) ≡ true → isIn p (fieldsOf o (w .house (home o) .heap .objects)) ≡ true → Has n w (home o) p
+  root : {j o : ℕ} → is_in o (w.house j).heap.roots ≡ true → Has n w j o
+  coming : {j o : ℕ} (s : ℕ) (bs : List ℕ) → Memᴰ bs w.sent → decode n bs ≡ Ok (Give (name o) (house j) (stamp s)) → seen_from (w.house j).stamps (home o) < s → Has n w j o
+  field : {i o p : ℕ} → Has n w i o → present o (w.house (home o)).heap.objects ≡ true → is_in p (fields_of o (w.house (home o)).heap.objects) ≡ true → Has n w (home o) p
 
 -- it is there, and its home has a line for the house that has it
 pub record There (w : World) (j o : ℕ) : Type 0 where
-  pub present-at-home : present o (w .house (home o) .heap .objects) ≡ true
-  pub known : (home o ≡ j) ⊎ (listed o j (w .house (home o) .list) ≡ true)
+  pub present_at_home : present o (w.house (home o)).heap.objects ≡ true
+  pub known : (home o ≡ j) ⊎ (listed o j (w.house (home o)).list ≡ true)
 
 -- a census has reached everything: all houses are in it, every far reference in use has a line of it, and every telling of it is settled
 abbrev pub Complete : ℕ → ℕ → World → Type 0
-Complete n c w = net.Complete n c (seen n w .net)
+Complete n c w = net.Complete n c (seen n w).net
 
 -- the same references matter
 abbrev pub SameMatters : ℕ → World → World → Type 0
@@ -45,22 +41,22 @@ pub record Safe (n : ℕ) (w : World) : Type 0 where
   -- THE PROMISE: whatever matters is there, and its home has a line for each other house that has such a reference
   pub there : (j o : ℕ) → Has n w j o → There w j o
   -- every house is within its limits
-  pub sound : (i : ℕ) → i < n → Sound (w .house i)
+  pub sound : (i : ℕ) → i < n → Sound (w.house i)
   -- a house has seen what it is known to have seen, and was given what it has seen
-  pub stamps : (j k : ℕ) → (heardFrom (w .house k .stamps) j ≤ seenFrom (w .house j .stamps) k) × (seenFrom (w .house j .stamps) k ≤ givenTo (w .house k .stamps) j)
+  pub stamps : (j k : ℕ) → (heard_from (w.house k).stamps j ≤ seen_from (w.house j).stamps k) × (seen_from (w.house j).stamps k ≤ given_to (w.house k).stamps j)
   -- a name that stands anywhere has a number that its home has made, so no name is used twice
-  pub fresh : (o : ℕ) → Anywhere (seen n w .net) o → o / 16 ≤ w .house (home o) .heap .made
+  pub fresh : (o : ℕ) → Anywhere (seen n w).net o → o / 16 ≤ (w.house (home o)).heap.made
   -- an object is at home, and once
-  pub once : (i o : ℕ) → present o (w .house i .heap .objects) ≡ true → (home o ≡ i) × (countOf o (w .house i .heap .objects) ≡ 1)
+  pub once : (i o : ℕ) → present o (w.house i).heap.objects ≡ true → (home o ≡ i) × (count_of o (w.house i).heap.objects ≡ 1)
   -- a census that two rounds found complete was complete at the moment when the second was begun
-  pub truly : agreed n (w .house 0 .desk) ≡ true →
-      (v : promise.World) × Runs n v × Later n v (seen n w) × (censusOf v 0 ≡ census (w .house 0)) × (suc (v .desk .round) ≡ w .house 0 .desk .round) × net.Complete n (census (w .house 0)) (v .net)
+  pub truly : agreed n (w.house 0).desk ≡ true →
+      (v : promise.World) × Runs n v × Later n v (seen n w) × (census_of v 0 ≡ census (w.house 0)) × (suc v.desk.round ≡ (w.house 0).desk.round) × net.Complete n (census (w.house 0)) v.net
   -- and it still is, if no house has joined another
-  pub still : agreed n (w .house 0 .desk) ≡ true → ((i : ℕ) → i < n → census (w .house i) ≡ census (w .house 0)) → Complete n (census (w .house 0)) w
+  pub still : agreed n (w.house 0).desk ≡ true → ((i : ℕ) → i < n → census (w.house i) ≡ census (w.house 0)) → Complete n (census (w.house 0)) w
   -- in a complete census all that matters was found in use
-  pub found : (c : ℕ) → Complete n c w → (j o : ℕ) → Has n w j o → (home o ≡ j) ⊎ (listedIn c o j (w .house (home o) .list) ≡ true)
+  pub found : (c : ℕ) → Complete n c w → (j o : ℕ) → Has n w j o → (home o ≡ j) ⊎ (listed_in c o j (w.house (home o)).list ≡ true)
   -- it stays complete, whatever is played, until a house joins another
-  pub stays : (c : ℕ) → Complete n c w → (e : Entry) → ((i : ℕ) → i < n → census (play n e w .house i) ≡ c) → Complete n c (play n e w)
+  pub stays : (c : ℕ) → Complete n c w → (e : Entry) → ((i : ℕ) → i < n → census ((play n e w).house i) ≡ c) → Complete n c (play n e w)
   -- the collector never changes what matters
   pub nothing : (e : Entry) → cleaning n e w ≡ true → SameMatters n w (play n e w)
 

@@ -1,95 +1,91 @@
 -- What the relation of steps sees of the houses and of what was sent.
-use mathlib.Core.Bool.{Bool, cond}
-use mathlib.Core.List.{List, [], _∷_, _++_}
-use Prim.Native.Nat.{ℕ}
-use Rattle·std.specs.declared.result.Result.{Result}
-use Rattle·std.specs.declared.result.Result.the-variants.{Ok, Err}
-use Rattle·wire.specs.declared.refusal.Refusal.{Refusal}
-use Rattle·wire.specs.declared.message.Message.{Message}
-use Rattle·wire.specs.declared.message.Message.the-variants as message
-use Rattle·wire.specs.Format.{decode, numbers, partOf}
-use Rattle·lines.specs.Stamping.{givenTo, seenFrom, heardFrom}
-use Rattle·census.specs.Model.{Told, names}
-use Rattle·census.specs.Model as census
-use Rattle·rounds.specs.Model as rounds
-use Rattle·rules.specs.House as rules
-use Rattle·promise.specs.House.{House}
-use Rattle·promise.specs.Net.{Msg, Ask, Give, Word, Mark, Sweep, Net}
-use Rattle·promise.specs.Rounds.{Part, Slot, none, some, Desk, Note, Answer, Round, Reply}
-use Rattle·promise.specs.Rounds as promise
-use Rattle·play·specs.Play.{World}
+use Rattle.std.specs.Prelude.{ℕ, Bool, cond, List, [], ◌∷◌, ◌++◌, Ok, Err, Result}
+use Rattle.wire.specs.declared.refusal.Refusal.{Refusal}
+use Rattle.wire.specs.declared.message.Message.{Message}
+use Rattle.wire.specs.declared.message.Message.TheVariants as message
+use Rattle.wire.specs.Format.{decode, numbers, part_of}
+use Rattle.lines.specs.Stamping.{given_to, seen_from, heard_from}
+use Rattle.census.specs.Model.{Told, names}
+use Rattle.census.specs.Model as census
+use Rattle.rounds.specs.Model as rounds
+use Rattle.rules.specs.House as rules
+use Rattle.promise.specs.House.{House}
+use Rattle.promise.specs.Net.{Msg, Ask, Give, Word, Mark, Sweep, Net}
+use Rattle.promise.specs.Rounds.{Part, Slot, none, some, Desk, Note, Answer, Round, Reply}
+use Rattle.promise.specs.Rounds as promise
+use Rattle.play.specs.Play.{World}
 
-abbrev pub houseSeen : rules.House → House
-houseSeen h =
+abbrev pub house_seen : rules.House → House
+house_seen h =
     record {
-      roots = h .heap .roots;
-      objects = h .heap .objects;
-      list = h .list;
-      given = givenTo (h .stamps);
-      seen = seenFrom (h .stamps);
-      heard = heardFrom (h .stamps);
-      census = h .part .census;
+      roots = h.heap.roots;
+      objects = h.heap.objects;
+      list = h.list;
+      given = given_to h.stamps;
+      seen = seen_from h.stamps;
+      heard = heard_from h.stamps;
+      census = h.part.census;
     }
 
 -- those whose telling was answered
-abbrev pub answeredNames : List Told → List ℕ
-answeredNames [] = []
-answeredNames (t ∷ ts) = cond (t .answered) (t .name ∷ answeredNames ts) (answeredNames ts)
+abbrev pub answered_names : List Told → List ℕ
+answered_names [] = []
+answered_names (t ∷ ts) = cond t.answered (t.name ∷ answered_names ts) (answered_names ts)
 
-abbrev pub partSeen : census.Part → Part
-partSeen p = record { told = names (p .told); answered = answeredNames (p .told); tally = p .tally; polled = p .polled; stirred = p .stirred }
+abbrev pub part_seen : census.Part → Part
+part_seen p = record { told = names p.told; answered = answered_names p.told; tally = p.tally; polled = p.polled; stirred = p.stirred }
 
-abbrev pub slotSeen : rounds.Slot → Slot
-slotSeen rounds.silent = none
-slotSeen (rounds.said calm t) = some calm t
+abbrev pub slot_seen : rounds.Slot → Slot
+slot_seen rounds.silent = none
+slot_seen (rounds.said calm t) = some calm t
 
-abbrev pub deskSeen : rounds.Desk → Desk
-deskSeen d = record { round = d .round; now = λ i. slotSeen (rounds.slotOf i (d .now)); before = λ i. slotSeen (rounds.slotOf i (d .before)) }
+abbrev pub desk_seen : rounds.Desk → Desk
+desk_seen d = record { round = d.round; now = λ i. slot_seen (rounds.slot_of i d.now); before = λ i. slot_seen (rounds.slot_of i d.before) }
 
 -- a message of the references, or of the census: with a word's objects beside it
-abbrev pub msgOf : Message → List ℕ → List Msg
-msgOf (message.Ask o by to) part = Ask (o .0) (by .0) (to .0) ∷ []
-msgOf (message.Give o to s) part = Give (o .0) (to .0) (s .0) ∷ []
-msgOf (message.Word from to s p) part = Word (from .0) (to .0) (numbers part) (s .0) ∷ []
-msgOf (message.Telling c o from) part = Mark (c .0) (o .0) (from .0) ∷ []
-msgOf (message.Answer c o from) part = []
-msgOf (message.Round c r) part = []
-msgOf (message.Reply c r from calm t) part = []
-msgOf (message.Complete c) part = Sweep (c .0) ∷ []
+abbrev pub msg_of : Message → List ℕ → List Msg
+msg_of (message.Ask o by to) part = Ask o.0 by.0 to.0 ∷ []
+msg_of (message.Give o to s) part = Give o.0 to.0 s.0 ∷ []
+msg_of (message.Word from to s p) part = Word from.0 to.0 (numbers part) s.0 ∷ []
+msg_of (message.Telling c o from) part = Mark c.0 o.0 from.0 ∷ []
+msg_of (message.Answer c o from) part = []
+msg_of (message.Round c r) part = []
+msg_of (message.Reply c r from calm t) part = []
+msg_of (message.Complete c) part = Sweep c.0 ∷ []
 
 -- a message of the rounds
-abbrev pub noteOf : Message → List Note
-noteOf (message.Ask o by to) = []
-noteOf (message.Give o to s) = []
-noteOf (message.Word from to s p) = []
-noteOf (message.Telling c o from) = []
-noteOf (message.Answer c o from) = Answer (c .0) (o .0) (from .0) ∷ []
-noteOf (message.Round c r) = Round (c .0) (r .0) ∷ []
-noteOf (message.Reply c r from calm t) = Reply (c .0) (r .0) (from .0) calm (t .0) ∷ []
-noteOf (message.Complete c) = []
+abbrev pub note_of : Message → List Note
+note_of (message.Ask o by to) = []
+note_of (message.Give o to s) = []
+note_of (message.Word from to s p) = []
+note_of (message.Telling c o from) = []
+note_of (message.Answer c o from) = Answer c.0 o.0 from.0 ∷ []
+note_of (message.Round c r) = Round c.0 r.0 ∷ []
+note_of (message.Reply c r from calm t) = Reply c.0 r.0 from.0 calm t.0 ∷ []
+note_of (message.Complete c) = []
 
-abbrev pub msgIn : Result Message Refusal → List ℕ → List Msg
-msgIn (Ok m) bs = msgOf m (partOf m bs)
-msgIn (Err e) bs = []
+abbrev pub msg_in : Result Message Refusal → List ℕ → List Msg
+msg_in (Ok m) bs = msg_of m (part_of m bs)
+msg_in (Err e) bs = []
 
-abbrev pub noteIn : Result Message Refusal → List Note
-noteIn (Ok m) = noteOf m
-noteIn (Err e) = []
+abbrev pub note_in : Result Message Refusal → List Note
+note_in (Ok m) = note_of m
+note_in (Err e) = []
 
-abbrev pub msgsSeen : ℕ → List (List ℕ) → List Msg
-msgsSeen n [] = []
-msgsSeen n (bs ∷ rest) = msgIn (decode n bs) bs ++ msgsSeen n rest
+abbrev pub msgs_seen : ℕ → List (List ℕ) → List Msg
+msgs_seen n [] = []
+msgs_seen n (bs ∷ rest) = msg_in (decode n bs) bs ++ msgs_seen n rest
 
-abbrev pub notesSeen : ℕ → List (List ℕ) → List Note
-notesSeen n [] = []
-notesSeen n (bs ∷ rest) = noteIn (decode n bs) ++ notesSeen n rest
+abbrev pub notes_seen : ℕ → List (List ℕ) → List Note
+notes_seen n [] = []
+notes_seen n (bs ∷ rest) = note_in (decode n bs) ++ notes_seen n rest
 
 -- a world among n houses, as the relation sees it
 abbrev pub seen : ℕ → World → promise.World
 seen n w =
     record {
-      net = record { house = λ i. houseSeen (w .house i); sent = msgsSeen n (w .sent); made = λ i. w .house i .heap .made };
-      part = λ i. partSeen (w .house i .part);
-      desk = deskSeen (w .house 0 .desk);
-      said = notesSeen n (w .sent);
+      net = record { house = λ i. house_seen (w.house i); sent = msgs_seen n w.sent; made = λ i. (w.house i).heap.made };
+      part = λ i. part_seen (w.house i).part;
+      desk = desk_seen (w.house 0).desk;
+      said = notes_seen n w.sent;
     }

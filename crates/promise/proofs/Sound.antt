@@ -1,102 +1,100 @@
 -- Every line was handed out, and who is no house has seen nothing.
-use mathlib.Core.Path.{_≡_, refl, sym, _∙_, ap, subst}
-use mathlib.Core.Logic.{⊎-elim}
-use mathlib.Core.List.{List, _∷_, List·Memᴰ, List·Memᴰ·head, List·Memᴰ·tail, List·Memᴰ·not-nil}
-use Prim.Native.Nat.{ℕ, _+_, _≤_}
-use native.Mathlib.Nat.{not-le-of-lt}
-use Rattle·lines.specs.Listed.{Listed}
-use Rattle·promise·specs.House.{House}
-use Rattle·promise·specs.Net.{Msg, Give, Net, Uses, Cleans, with, sends, gave, took}
-use Rattle·promise·specs.Alike.{AlikeNet}
-use Rattle·promise·specs.Rounds.{World, Turn, Runs}
-use Rattle·promise·proofs.Base.{set-elim, same-at}
-use Rattle·promise·proofs.Lines.{Kin, back, became-marked, became-joined, became-heard, became-swept, entered-back}
-use Rattle·promise·proofs.Steps.{Good}
-use Rattle·promise·proofs.Ends.{good-of}
+use Rattle.std.proofs.Common.{◌≡◌, ℕ, ◌+◌, ◌≤◌, List, ◌∷◌, sym, refl, ap, ◌∙◌, subst, ⊎_elim, not-le_of_lt}
+use mathlib.Core.List.Memᴰ
+use mathlib.Core.List.{Memᴰ}
+use Rattle.lines.specs.Listed.{Listed}
+use Rattle.promise.specs.House.{House}
+use Rattle.promise.specs.Net.{Msg, Give, Net, Uses, Cleans, with, sends, gave, took}
+use Rattle.promise.specs.Alike.{AlikeNet}
+use Rattle.promise.specs.Rounds.{World, Turn, Runs}
+use Rattle.promise.proofs.Base.{set_elim, same_at}
+use Rattle.promise.proofs.Lines.{Kin, back, became_marked, became_joined, became_heard, became_swept, entered_back}
+use Rattle.promise.proofs.Steps.{Good}
+use Rattle.promise.proofs.Ends.{good_of}
 
 abbrev Handed : Listed → Msg
-Handed e = Give (e .object) (e .holder) (e .stamp)
+Handed e = Give e.object e.holder e.stamp
 
 pub record Sound (houses : ℕ) (n : Net) : Type 0 where
-  pub quiet : (j k : ℕ) → houses ≤ j → n .house j .seen k ≡ 0
-  pub handed : (k : ℕ) (e : Listed) → List·Memᴰ e (n .house k .list) → List·Memᴰ (Give (e .object) (e .holder) (e .stamp)) (n .sent)
+  pub quiet : (j k : ℕ) → houses ≤ j → (n.house j).seen k ≡ 0
+  pub handed : (k : ℕ) (e : Listed) → Memᴰ e (n.house k).list → Memᴰ (Give e.object e.holder e.stamp) n.sent
 
 module _ {houses : ℕ} (n : Net) (x : Sound houses n) where
-  sound-with : (i : ℕ) (h : House) → h .seen ≡ n .house i .seen → ((e : Listed) → List·Memᴰ e (h .list) → List·Memᴰ (Handed e) (n .sent)) → Sound houses (with i h n)
-  sound-with i h es f =
+  sound_with : (i : ℕ) (h : House) → h.seen ≡ (n.house i).seen → ((e : Listed) → Memᴰ e h.list → Memᴰ (Handed e) n.sent) → Sound houses (with i h n)
+  sound_with i h es f =
       record {
-        quiet = λ j k l. ap (λ (g : ℕ → ℕ). g k) (same-at (λ g. g .seen) i h (n .house) es j) ∙ x .quiet j k l;
-        handed = set-elim (λ k g. (e : Listed) → List·Memᴰ e (g .list) → List·Memᴰ (Handed e) (n .sent)) i h (n .house) f (x .handed);
+        quiet = λ j k l. ap (λ (g : ℕ → ℕ). g k) (same_at (λ g. g.seen) i h n.house es j) ∙ x.quiet j k l;
+        handed = set_elim (λ k g. (e : Listed) → Memᴰ e g.list → Memᴰ (Handed e) n.sent) i h n.house f x.handed;
       }
 
-  sound-same : (i : ℕ) (h : House) → h .seen ≡ n .house i .seen → h .list ≡ n .house i .list → Sound houses (with i h n)
-  sound-same i h es el = sound-with i h es (λ e m. x .handed i e (subst (λ (l : List Listed). List·Memᴰ e l) el m))
+  sound_same : (i : ℕ) (h : House) → h.seen ≡ (n.house i).seen → h.list ≡ (n.house i).list → Sound houses (with i h n)
+  sound_same i h es el = sound_with i h es (λ e m. x.handed i e (subst (λ (l : List Listed). Memᴰ e l) el m))
 
-  sound-sends : (m : Msg) → Sound houses (sends m n)
-  sound-sends m = record { quiet = x .quiet; handed = λ k e z. List·Memᴰ·tail (x .handed k e z) }
+  sound_sends : (m : Msg) → Sound houses (sends m n)
+  sound_sends m = record { quiet = x.quiet; handed = λ k e z. Memᴰ.tail (x.handed k e z) }
 
-  sound-kin : (i : ℕ) (e f : Listed) → List·Memᴰ e (n .house i .list) → Kin e f → f .stamp ≡ e .stamp → List·Memᴰ (Handed f) (n .sent)
-  sound-kin i e f m k p =
-      let q : Handed e ≡ Handed f = cc (k .0, k .1, p) in
-      subst (λ (y : Msg). List·Memᴰ y (n .sent)) q (x .handed i e m)
+  sound_kin : (i : ℕ) (e f : Listed) → Memᴰ e (n.house i).list → Kin e f → f.stamp ≡ e.stamp → Memᴰ (Handed f) n.sent
+  sound_kin i e f m k p =
+      let q : Handed e ≡ Handed f = cc (k.0, k.1, p) in
+      subst (λ (y : Msg). Memᴰ y n.sent) q (x.handed i e m)
 
-uses-sound : {houses : ℕ} {n m : Net} → Uses houses n m → Good houses n → Sound houses n → Sound houses m
-uses-sound (Uses.make n i k a b d) g x = let z = sound-same n x i (Rattle·promise·specs.Net.made _ (n .house i)) refl refl in record { quiet = z .quiet; handed = z .handed }
-uses-sound (Uses.link n i o p a b d e) g x = sound-same n x i _ refl refl
-uses-sound (Uses.unlink n i o p a b d) g x = sound-same n x i _ refl refl
-uses-sound (Uses.load n i o p a b d e) g x = sound-same n x i _ refl refl
-uses-sound (Uses.drop n i o a) g x = sound-same n x i _ refl refl
-uses-sound (Uses.ask n i o j a b d) g x = sound-sends n x _
-uses-sound (Uses.give n k o i j a b d e f w) g x =
+uses_sound : {houses : ℕ} {n m : Net} → Uses houses n m → Good houses n → Sound houses n → Sound houses m
+uses_sound (Uses.make n i k a b d) g x = let z = sound_same n x i (Rattle.promise.specs.Net.made _ (n.house i)) refl refl in record { quiet = z.quiet; handed = z.handed }
+uses_sound (Uses.link n i o p a b d e) g x = sound_same n x i _ refl refl
+uses_sound (Uses.unlink n i o p a b d) g x = sound_same n x i _ refl refl
+uses_sound (Uses.load n i o p a b d e) g x = sound_same n x i _ refl refl
+uses_sound (Uses.drop n i o a) g x = sound_same n x i _ refl refl
+uses_sound (Uses.ask n i o j a b d) g x = sound_sends n x _
+uses_sound (Uses.give n k o i j a b d e f w) g x =
     record {
-      quiet = λ q r l. ap (λ (z : ℕ → ℕ). z r) (same-at (λ z. z .seen) k (gave o j (n .house k)) (n .house) refl q) ∙ x .quiet q r l;
-      handed = set-elim (λ q z. (y : Listed) → List·Memᴰ y (z .list) → List·Memᴰ (Handed y) (Give o j (n .house k .given j + 1) ∷ n .sent)) k (gave o j (n .house k)) (n .house)
-          (λ y m. ⊎-elim (λ p. List·Memᴰ·head (ap Handed p)) (λ r. List·Memᴰ·tail (x .handed k y (r .0))) (entered-back o j (n .house k .given j + 1) (n .house k .census) (n .house k .list) (g .inv .single k) y m))
-          (λ q y m. List·Memᴰ·tail (x .handed q y m));
+      quiet = λ q r l. ap (λ (z : ℕ → ℕ). z r) (same_at (λ z. z.seen) k (gave o j (n.house k)) n.house refl q) ∙ x.quiet q r l;
+      handed = set_elim (λ q z. (y : Listed) → Memᴰ y z.list → Memᴰ (Handed y) (Give o j ((n.house k).given j + 1) ∷ n.sent)) k (gave o j (n.house k)) n.house
+          (λ y m. ⊎_elim (λ p. Memᴰ.head (ap Handed p)) (λ r. Memᴰ.tail (x.handed k y r.0)) (entered_back o j ((n.house k).given j + 1) (n.house k).census (n.house k).list (g.inv.single k) y m))
+          (λ q y m. Memᴰ.tail (x.handed q y m));
     }
-uses-sound (Uses.giveHome n k o i a b d e f) g x = sound-same n x k _ refl refl
-uses-sound {houses} (Uses.take n j o s a b d) g x =
+uses_sound (Uses.give_home n k o i a b d e f) g x = sound_same n x k _ refl refl
+uses_sound {houses} (Uses.take n j o s a b d) g x =
     record {
-      quiet = set-elim (λ q z. (k : ℕ) → houses ≤ q → z .seen k ≡ 0) j (took o s (n .house j)) (n .house) (λ k l. absurd (not-le-of-lt a l)) (x .quiet);
-      handed = set-elim (λ q z. (y : Listed) → List·Memᴰ y (z .list) → List·Memᴰ (Handed y) (n .sent)) j (took o s (n .house j)) (n .house) (x .handed j) (x .handed);
-    }
-
-cleans-sound : {houses : ℕ} {n m : Net} → Cleans houses n m → Sound houses n → Sound houses m
-cleans-sound (Cleans.word n j k held a b d e f) x = sound-sends n x _
-cleans-sound (Cleans.hear n j k held upto a b) x =
-    sound-with n x k _ refl (λ f m. let z = back (became-heard j held upto (n .house k .list)) f m in sound-kin n x k (z .0) f (z .1) (z .2) (ap (λ (y : Listed). y .stamp) (sym (z .3))))
-cleans-sound (Cleans.collect n i kept a k) x = sound-same n x i _ refl refl
-cleans-sound (Cleans.join n i c a b) x =
-    sound-with n x i _ refl (λ f m. let z = back (became-joined c (n .house i .heard) (n .house i .list)) f m in
-    sound-kin n x i (z .0) f (z .1) (z .2) (⊎-elim (λ p. ap (λ (y : Listed). y .stamp) (sym (p .0))) (λ p. p .1 .0) (z .3)))
-cleans-sound (Cleans.tell n i o a b d) x = sound-sends n x _
-cleans-sound (Cleans.mark n k o i a b d) x =
-    sound-with n x k _ refl (λ f m. let z = back (became-marked (n .house k .census) o i (n .house k .list)) f m in
-    sound-kin n x k (z .0) f (z .1) (z .2) (⊎-elim (λ p. ap (λ (y : Listed). y .stamp) (sym p)) (λ p. p .1 .0) (z .3)))
-cleans-sound (Cleans.complete n c a k) x = sound-sends n x _
-cleans-sound (Cleans.sweep n i a b) x =
-    sound-with n x i _ refl (λ f m. let z = back (became-swept (n .house i .census) (n .house i .list)) f m in sound-kin n x i (z .0) f (z .1) (z .2) (ap (λ (y : Listed). y .stamp) (sym (z .3))))
-
-alike-sound : {houses : ℕ} {n m : Net} → AlikeNet n m → Sound houses n → Sound houses m
-alike-sound a x =
-    record {
-      quiet = λ j k l. sym (a .house j .seen k) ∙ x .quiet j k l;
-      handed = λ k e z. a .sent (Handed e) .0 (x .handed k e (subst (λ (l : List Listed). List·Memᴰ e l) (sym (a .house k .list)) z));
+      quiet = set_elim (λ q z. (k : ℕ) → houses ≤ q → z.seen k ≡ 0) j (took o s (n.house j)) n.house (λ k l. absurd (not-le_of_lt a l)) x.quiet;
+      handed = set_elim (λ q z. (y : Listed) → Memᴰ y z.list → Memᴰ (Handed y) n.sent) j (took o s (n.house j)) n.house (x.handed j) x.handed;
     }
 
-pub sounds : {houses : ℕ} {w : World} → Runs houses w → Sound houses (w .net)
-sounds Runs.begun = record { quiet = λ j k l. refl; handed = λ k e m. absurd (List·Memᴰ·not-nil m) }
-sounds {houses} (Runs.then {w = w} {v = v} r t) = step (good-of r) (sounds r) t
+cleans_sound : {houses : ℕ} {n m : Net} → Cleans houses n m → Sound houses n → Sound houses m
+cleans_sound (Cleans.word n j k held a b d e f) x = sound_sends n x _
+cleans_sound (Cleans.hear n j k held upto a b) x =
+    sound_with n x k _ refl (λ f m. let z = back (became_heard j held upto (n.house k).list) f m in sound_kin n x k z.0 f z.1 z.2 (ap (λ (y : Listed). y.stamp) (sym z.3)))
+cleans_sound (Cleans.collect n i kept a k) x = sound_same n x i _ refl refl
+cleans_sound (Cleans.join n i c a b) x =
+    sound_with n x i _ refl (λ f m. let z = back (became_joined c (n.house i).heard (n.house i).list) f m in
+    sound_kin n x i z.0 f z.1 z.2 (⊎_elim (λ p. ap (λ (y : Listed). y.stamp) (sym p.0)) (λ p. p.1.0) z.3))
+cleans_sound (Cleans.tell n i o a b d) x = sound_sends n x _
+cleans_sound (Cleans.mark n k o i a b d) x =
+    sound_with n x k _ refl (λ f m. let z = back (became_marked (n.house k).census o i (n.house k).list) f m in
+    sound_kin n x k z.0 f z.1 z.2 (⊎_elim (λ p. ap (λ (y : Listed). y.stamp) (sym p)) (λ p. p.1.0) z.3))
+cleans_sound (Cleans.complete n c a k) x = sound_sends n x _
+cleans_sound (Cleans.sweep n i a b) x =
+    sound_with n x i _ refl (λ f m. let z = back (became_swept (n.house i).census (n.house i).list) f m in sound_kin n x i z.0 f z.1 z.2 (ap (λ (y : Listed). y.stamp) (sym z.3)))
+
+alike_sound : {houses : ℕ} {n m : Net} → AlikeNet n m → Sound houses n → Sound houses m
+alike_sound a x =
+    record {
+      quiet = λ j k l. sym ((a.house j).seen k) ∙ x.quiet j k l;
+      handed = λ k e z. (a.sent (Handed e)).0 (x.handed k e (subst (λ (l : List Listed). Memᴰ e l) (sym (a.house k).list) z));
+    }
+
+pub sounds : {houses : ℕ} {w : World} → Runs houses w → Sound houses w.net
+sounds Runs.begun = record { quiet = λ j k l. refl; handed = λ k e m. absurd (Memᴰ.not-nil m) }
+sounds {houses} (Runs.then {w = w} {v = v} r t) = step (good_of r) (sounds r) t
   where
-    step : {w v : World} → Good houses (w .net) → Sound houses (w .net) → Turn houses w v → Sound houses (v .net)
-    step g x (Turn.uses w u) = uses-sound u g x
-    step g x (Turn.cleans w s a) = cleans-sound s x
-    step g x (Turn.join w i c a b) = cleans-sound (Cleans.join (w .net) i c a b) x
-    step g x (Turn.tell w i o a b d) = cleans-sound (Cleans.tell (w .net) i o a b d) x
-    step g x (Turn.mark w k o i a b d) = cleans-sound (Cleans.mark (w .net) k o i a b d) x
+    step : {w v : World} → Good houses w.net → Sound houses w.net → Turn houses w v → Sound houses v.net
+    step g x (Turn.uses w u) = uses_sound u g x
+    step g x (Turn.cleans w s a) = cleans_sound s x
+    step g x (Turn.join w i c a b) = cleans_sound (Cleans.join w.net i c a b) x
+    step g x (Turn.tell w i o a b d) = cleans_sound (Cleans.tell w.net i o a b d) x
+    step g x (Turn.mark w k o i a b d) = cleans_sound (Cleans.mark w.net k o i a b d) x
     step g x (Turn.answer w i o a b d) = x
     step g x (Turn.begin w a b) = x
     step g x (Turn.reply w i r b a d e f) = x
     step g x (Turn.note w i b t a d e) = x
-    step g x (Turn.complete w e) = sound-sends (w .net) x _
-    step g x (Turn.alike w v a) = alike-sound (a .net) x
+    step g x (Turn.complete w e) = sound_sends w.net x _
+    step g x (Turn.alike w v a) = alike_sound a.net x

@@ -1,19 +1,15 @@
 // Up to four houses in one process, with standard input as the network between them.
+use anyhow::anyhow;
 use console::Player;
 use lines::Line;
-use net::Net;
-use net::Played;
-use net::Settled;
+use net::{Net, Played, Settled};
 use node::Recipient;
 use std::alloc::Global;
-use std::error::AnyError;
 use std::fmt::Write;
 use store::Store;
 use tables::Object;
 use text::Play;
-use wire::Call;
-use wire::House;
-use wire::Refusal;
+use wire::{Call, House, Refusal};
 
 const USAGE: &str =
     "usage: rehearse N   (N houses, from 1 to 4; calls and deliveries on standard input)";
@@ -28,18 +24,18 @@ struct Rehearsal {
 
 impl Rehearsal {
     // What was sent since is printed with its numbers, or why nothing was done.
-    fn report(&mut self, played: Played, out: &mut String) -> Result<(), AnyError> {
+    fn report(&mut self, played: Played, out: &mut String) -> anyhow::Result<()> {
         match played {
             Played::Done => self.print_sent(out),
             Played::Refused(refusal) => {
                 text::write_refusal(refusal, out)?;
                 Ok(())
             }
-            Played::NoMemory | Played::Lost => Err("out of memory".into()),
+            Played::NoMemory | Played::Lost => Err(anyhow!("out of memory")),
         }
     }
 
-    fn print_sent(&mut self, out: &mut String) -> Result<(), AnyError> {
+    fn print_sent(&mut self, out: &mut String) -> anyhow::Result<()> {
         let sent = self.net.sent();
         for place in self.printed..sent {
             let Some(bytes) = self.net.message(place) else {
@@ -54,18 +50,18 @@ impl Rehearsal {
         Ok(())
     }
 
-    fn call(&mut self, house: House, call: Call, out: &mut String) -> Result<(), AnyError> {
+    fn call(&mut self, house: House, call: Call, out: &mut String) -> anyhow::Result<()> {
         let played = self.net.call(house, call);
         self.report(played, out)
     }
 
     // These bytes come to a house, whoever wrote them.
-    fn got(&mut self, house: House, bytes: &[u8], out: &mut String) -> Result<(), AnyError> {
+    fn got(&mut self, house: House, bytes: &[u8], out: &mut String) -> anyhow::Result<()> {
         let played = self.net.forge(house, bytes);
         self.report(played, out)
     }
 
-    fn deliver_at(&mut self, house: House, number: u64, out: &mut String) -> Result<(), AnyError> {
+    fn deliver_at(&mut self, house: House, number: u64, out: &mut String) -> anyhow::Result<()> {
         let played = match place(number) {
             Some(message) => self.net.deliver(house, message),
             None => Played::Refused(Refusal::Malformed),
@@ -74,7 +70,7 @@ impl Rehearsal {
     }
 
     // A message comes to whom it is for, or to each house in order.
-    fn deliver(&mut self, number: u64, out: &mut String) -> Result<(), AnyError> {
+    fn deliver(&mut self, number: u64, out: &mut String) -> anyhow::Result<()> {
         match self.recipient(number) {
             Some(Recipient::One(house)) => self.deliver_at(house, number, out),
             Some(Recipient::Every) => {
@@ -88,7 +84,7 @@ impl Rehearsal {
     }
 
     // The collector frees all that does not matter, and what it sent is printed.
-    fn settle(&mut self, out: &mut String) -> Result<(), AnyError> {
+    fn settle(&mut self, out: &mut String) -> anyhow::Result<()> {
         let played = match self.net.settle() {
             Settled::Done => Played::Done,
             Settled::OutOfCensuses => Played::Refused(Refusal::OutOfNumbers),
@@ -107,7 +103,7 @@ impl Rehearsal {
         self.net.houses().len().min(16) as u8
     }
 
-    fn show(&self, out: &mut String) -> Result<(), AnyError> {
+    fn show(&self, out: &mut String) -> anyhow::Result<()> {
         for (number, store) in self.net.houses().iter().enumerate() {
             let census = store.census().0;
             write!(out, "house {number} census {census}\n")?;
@@ -132,7 +128,7 @@ fn place(number: u64) -> Option<usize> {
     usize::try_from(number - 1).ok()
 }
 
-fn show_object(object: &Object, out: &mut String) -> Result<(), AnyError> {
+fn show_object(object: &Object, out: &mut String) -> anyhow::Result<()> {
     let name = object.name().0;
     write!(out, "object {name}")?;
     for field in object.fields() {
@@ -143,7 +139,7 @@ fn show_object(object: &Object, out: &mut String) -> Result<(), AnyError> {
     Ok(())
 }
 
-fn show_list(store: &Store, out: &mut String) -> Result<(), AnyError> {
+fn show_list(store: &Store, out: &mut String) -> anyhow::Result<()> {
     for i in 0..2048 {
         let Some(line) = store.line(i) else {
             break;
@@ -153,7 +149,7 @@ fn show_list(store: &Store, out: &mut String) -> Result<(), AnyError> {
     Ok(())
 }
 
-fn show_line(line: Line, out: &mut String) -> Result<(), AnyError> {
+fn show_line(line: Line, out: &mut String) -> anyhow::Result<()> {
     let object = line.object.0;
     let holder = line.holder.0;
     let stamp = line.stamp.0;
@@ -162,8 +158,8 @@ fn show_line(line: Line, out: &mut String) -> Result<(), AnyError> {
     Ok(())
 }
 
-impl Player for Rehearsal as RehearsalPlayer {
-    fn answer(&mut self, line: &[u8], out: &mut String) -> Result<(), AnyError> {
+impl Player for Rehearsal {
+    fn answer(&mut self, line: &[u8], out: &mut String) -> anyhow::Result<()> {
         match text::read_play(line) {
             Play::Blank => Ok(()),
             Play::CallAt(house, call) => self.call(house, call, out),
@@ -181,7 +177,7 @@ impl Player for Rehearsal as RehearsalPlayer {
 }
 
 // As many empty houses as the argument says.
-fn empty(heap: Global, arguments: &[u64]) -> Result<Option<Rehearsal>, AnyError> {
+fn empty(heap: Global, arguments: &[u64]) -> anyhow::Result<Option<Rehearsal>> {
     let [count] = arguments else {
         return Ok(None);
     };
@@ -189,7 +185,7 @@ fn empty(heap: Global, arguments: &[u64]) -> Result<Option<Rehearsal>, AnyError>
         return Ok(None);
     }
     let Ok(net) = Net::new(heap, *count as u8) else {
-        return Err("out of memory".into());
+        return Err(anyhow!("out of memory"));
     };
     Ok(Some(Rehearsal {
         heap,
@@ -198,12 +194,12 @@ fn empty(heap: Global, arguments: &[u64]) -> Result<Option<Rehearsal>, AnyError>
     }))
 }
 
-fn main(rt: LibcRuntime) -> Result<(), AnyError> {
+fn main(rt: HostRuntime) -> anyhow::Result<()> {
     let Some(arguments) = console::arguments(&rt)? else {
         return console::wrong_arguments(&rt, USAGE);
     };
     let Some(mut player) = empty(rt.alloc(), &arguments)? else {
         return console::wrong_arguments(&rt, USAGE);
     };
-    rt.report(console::play(&rt, &mut player))
+    console::play(&rt, &mut player)
 }

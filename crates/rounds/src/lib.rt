@@ -4,5 +4,4 @@ mod desk;
 mod rounds;
 mod slot;
 
-pub use desk::Desk;
-pub use desk::Noted;
+pub use desk::{Desk, Noted};

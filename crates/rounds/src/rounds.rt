@@ -1,29 +1,25 @@
-ghost use mathlib.Core.Path.{_≡_};
-ghost use Rattle·census.specs.Moods.{isCalm};
-ghost use Rattle·rounds·specs.Laws.{Laws};
-ghost use Rattle·rounds·specs.Model.{idle, ready, agreed, beginning, begun, notes, noted, completes};
-ghost use Rattle·rounds·specs.Shown.{deskOf, numberOf, verdict};
-use crate::desk::Answers;
-use crate::desk::Desk;
-use crate::desk::Noted;
+ghost use Rattle.std.specs.Prelude.{◌≡◌};
+ghost use Rattle.census.specs.Moods.{is_calm};
+ghost use Rattle.rounds.specs.Laws.{Laws};
+ghost use Rattle.rounds.specs.Model.{idle, ready, agreed, beginning, begun, notes, noted, completes};
+ghost use Rattle.rounds.specs.Shown.{desk_of, number_of, verdict};
+
+use crate::desk::{Answers, Desk, Noted};
 use crate::slot::Slot;
 use census::Mood;
-use wire::House;
-use wire::Refusal;
-use wire::RoundNumber;
-use wire::Tally;
+use wire::{House, Refusal, RoundNumber, Tally};
 
 impl Desk {
     // No round was begun yet.
     pub fn new() -> Desk
-        ensures value { λ r. ⌜ deskOf r ≡ idle ⌝ }
-        ensures lawful { λ _. ⌜ Laws ⌝ }
+        ensures value { desk_of result ≡ idle }
+        ensures lawful { Laws }
     {
         Desk::idle()
     }
 
     fn idle() -> Desk
-        ensures { λ r. ⌜ deskOf r ≡ idle ⌝ }
+        ensures { desk_of result ≡ idle }
     {
         Desk {
             round: RoundNumber(0),
@@ -34,15 +30,15 @@ impl Desk {
 
     // Whether the next round may begin: there is none, or all have answered it.
     fn is_ready(&self, houses: u8) -> bool
-        ensures { λ r. ⌜ r ≡ ready houses (deskOf (now (self .entry))) ⌝ }
+        ensures { result ≡ ready houses (desk_of self.entry.now) }
     {
         self.round.0 == 0 || self.now.are_all(houses)
     }
 
     // The next round, or the present one again if not all have answered it, since its message may be lost.
     pub fn begin(self, houses: u8) -> (Desk, Result<RoundNumber, Refusal>)
-        ensures value { λ r. ⌜ numberOf (r .1) ≡ beginning houses (deskOf self) ⌝ }
-        ensures after { λ r. ⌜ deskOf (r .0) ≡ begun houses (deskOf self) ⌝ }
+        ensures value { number_of result.1 ≡ beginning houses (desk_of self) }
+        ensures after { desk_of result.0 ≡ begun houses (desk_of self) }
     {
         if !self.is_ready(houses) {
             return (self, Ok(self.round));
@@ -61,14 +57,14 @@ impl Desk {
 
     // Whether an answer to a round is the first of its house to the present one.
     fn is_new(&self, number: RoundNumber, from: House) -> bool
-        ensures { λ r. ⌜ r ≡ notes (number .0) (from .0) (deskOf (now (self .entry))) ⌝ }
+        ensures { result ≡ notes number.0 from.0 (desk_of self.entry.now) }
     {
         number.0 >= 1 && number.0 == self.round.0 && !self.now.of(from.0).has_spoken()
     }
 
     // Whether two rounds in a row agree. One does not show that nothing was marked while the others were asked.
     fn is_agreed(&self, houses: u8) -> bool
-        ensures { λ r. ⌜ r ≡ agreed houses (deskOf (now (self .entry))) ⌝ }
+        ensures { result ≡ agreed houses (desk_of self.entry.now) }
     {
         self.round.0 >= 2 && self.now.agree(&self.before, houses)
     }
@@ -82,8 +78,8 @@ impl Desk {
         mood: Mood,
         tally: Tally,
     ) -> (Desk, Noted)
-        ensures value { λ r. ⌜ r .1 ≡ verdict (notes (number .0) (from .0) (deskOf self)) (completes houses (number .0) (from .0) (isCalm mood) (tally .0) (deskOf self)) ⌝ }
-        ensures after { λ r. ⌜ deskOf (r .0) ≡ noted (number .0) (from .0) (isCalm mood) (tally .0) (deskOf self) ⌝ }
+        ensures value { result.1 ≡ verdict (notes number.0 from.0 (desk_of self)) (completes houses number.0 from.0 (is_calm mood) tally.0 (desk_of self)) }
+        ensures after { desk_of result.0 ≡ noted number.0 from.0 (is_calm mood) tally.0 (desk_of self) }
     {
         if !self.is_new(number, from) {
             return (self, Noted::Ignored);

@@ -1,6 +1,7 @@
-ghost use mathlib.Core.Path.{_≡_};
-ghost use Rattle·rounds·specs.Model.{spoke, agrees};
-ghost use Rattle·rounds·specs.Slots.{slot};
+ghost use Rattle.std.specs.Prelude.{◌≡◌};
+ghost use Rattle.rounds.specs.Model.{spoke, agrees};
+ghost use Rattle.rounds.specs.Slots.{slot};
+
 use census::Mood;
 use wire::Tally;
 
@@ -15,7 +16,7 @@ pub enum Slot {
 
 impl Slot {
     pub(crate) fn has_spoken(self) -> bool
-        ensures { λ r. ⌜ r ≡ spoke (slot self) ⌝ }
+        ensures { result ≡ spoke (slot self) }
     {
         match self {
             Slot::Silent => false,
@@ -25,7 +26,7 @@ impl Slot {
 
     // Calm in this round and in the one before, and nothing was marked between the two answers.
     pub(crate) fn agrees(self, before: Slot) -> bool
-        ensures { λ r. ⌜ r ≡ agrees (slot self) (slot before) ⌝ }
+        ensures { result ≡ agrees (slot self) (slot before) }
     {
         match (self, before) {
             (Slot::Said(mood, tally), Slot::Said(earlier, counted)) => {

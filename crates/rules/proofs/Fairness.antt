@@ -1,126 +1,118 @@
 -- A step changes no house into another, and a refusal changes nothing.
-use mathlib.Core.Path.{_≡_, refl, sym, ap, _∙_}
-use mathlib.Core.Bool.{Bool, true, false, cond, _||_, not}
-use mathlib.Core.List.{List, [], _∷_}
-use Prim.Native.Nat.{ℕ}
-use native.Mathlib.Omega.{arith}
-use lib.Dec.{eqb, leb, ltb}
-use Rattle·std.proofs.shelf.Tests.{ltb-false, eq-eqb}
-use Rattle·std.specs.declared.result.Result.{Result}
-use Rattle·std.specs.declared.result.Result.the-variants.{Ok, Err}
-use Rattle·wire.specs.declared.message.Message.{Message}
-use Rattle·wire.specs.declared.message.Message.the-variants as message
-use Rattle·wire.specs.declared.names.Stamp.{Stamp}
-use Rattle·std.specs.Results.{isOk}
-use Rattle·wire.specs.declared.refusal.Refusal.{Refusal}
-use Rattle·wire.specs.declared.refusal.Refusal.the-variants.{Malformed, Misdelivered, NotRoot, NotHere, NotHolder, OldStamp, OtherCensus, NoRoom, OutOfNumbers, WrongHouse}
-use Rattle·wire.specs.Names.{home}
-use Rattle·wire.specs.Format.{decode}
-use Rattle·tables.specs.Model.{Heap, isIn, present}
-use Rattle·objects.specs.Calls.{makeAnswer, madeNew, linkAnswer, linkedTo, unlinkAnswer, unlinkedFrom, loadAnswer, rooted, dropAnswer, unrooted, keepAnswer, takeAnswer, malformed}
-use Rattle·lines.specs.Listed.{fits, belongs}
-use Rattle·lines.specs.Stamping.{nextFor, seenFrom}
-use Rattle·census.specs.Model.{asks}
-use Rattle·rounds.specs.Model.{beginning}
-use Rattle·rules·specs.House.{House, self, houses, census, withHeap, withPart}
-use Rattle·rules·specs.Step.{Outcome, Event, make, link, unlink, load, drop, ask, collect, word, join, tell, round, came, Letter, refused, refuseIf, sends, quietly, inCensus, caughtUp, marks, stamped, tookIt, repliesTo, begins, receives, readAs, handed, authorised, step}
-use Rattle·rules·specs.Laws.{Fair, AlwaysFair}
+use Rattle.std.proofs.Common.{◌≡◌, ℕ, Bool, true, false, cond, not, ◌||◌, eqb, ltb, leb, List, [], ◌∷◌, is_ok, Ok, Err, Result, sym, refl, ap, ◌∙◌, arith}
+use Rattle.std.proofs.lemmas.Bool.{ltb-false, eq-eqb}
+use Rattle.wire.specs.declared.message.Message.{Message}
+use Rattle.wire.specs.declared.message.Message.TheVariants as message
+use Rattle.wire.specs.declared.names.Stamp.{Stamp}
+use Rattle.wire.specs.declared.refusal.Refusal.{Refusal}
+use Rattle.wire.specs.declared.refusal.Refusal.TheVariants.{Malformed, Misdelivered, NotRoot, NotHere, NotHolder, OldStamp, OtherCensus, NoRoom, OutOfNumbers, WrongHouse}
+use Rattle.wire.specs.Names.{home}
+use Rattle.wire.specs.Format.{decode}
+use Rattle.tables.specs.Model.{Heap, is_in, present}
+use Rattle.objects.specs.Calls.{make_answer, made_new, link_answer, linked_to, unlink_answer, unlinked_from, load_answer, rooted, drop_answer, unrooted, keep_answer, take_answer, malformed}
+use Rattle.lines.specs.Listed.{fits, belongs}
+use Rattle.lines.specs.Stamping.{next_for, seen_from}
+use Rattle.census.specs.Model.{asks}
+use Rattle.rounds.specs.Model.{beginning}
+use Rattle.rules.specs.House.{House, self, houses, census, with_heap, with_part}
+use Rattle.rules.specs.Step.{Outcome, Event, make, link, unlink, load, drop, ask, collect, word, join, tell, round, came, Letter, refused, refuse_if, sends, quietly, in_census, caught_up, marks, stamped, took_it, replies_to, begins, receives, read_as, handed, authorised, step}
+use Rattle.rules.specs.Laws.{Fair, AlwaysFair}
 
-pub by-cases : {X : Type 0} (b : Bool) → (b ≡ true → X) → (b ≡ false → X) → X
-by-cases true f g = f refl
-by-cases false f g = g refl
+pub by_cases : {X : Type 0} (b : Bool) → (b ≡ true → X) → (b ≡ false → X) → X
+by_cases true f g = f refl
+by_cases false f g = g refl
 
-fair-refused : (e : Refusal) (h : House) → Fair h (refused e h)
-fair-refused e h = record { home = refl; houses = refl; unchanged = λ _ _. refl }
+fair_refused : (e : Refusal) (h : House) → Fair h (refused e h)
+fair_refused e h = record { home = refl; houses = refl; unchanged = λ _ _. refl }
 
-fair-sends : (ls : List Letter) (h g : House) → g .heap .home ≡ h .heap .home → g .heap .houses ≡ h .heap .houses → Fair h (sends ls g)
-fair-sends ls h g p q = record { home = p; houses = q; unchanged = λ e r. let z : _≡_ {A = ℕ} 0 1 = cc in absurd (omega arith) }
+fair_sends : (ls : List Letter) (h g : House) → g.heap.home ≡ h.heap.home → g.heap.houses ≡ h.heap.houses → Fair h (sends ls g)
+fair_sends ls h g p q = record { home = p; houses = q; unchanged = λ e r. let z : ◌≡◌ {A = ℕ} 0 1 = cc in absurd (omega arith) }
 
-fair-unless : (b : Bool) (e : Refusal) (h : House) (x : Outcome) → (b ≡ false → Fair h x) → Fair h (refuseIf b e h x)
-fair-unless true e h x f = fair-refused e h
-fair-unless false e h x f = f refl
+fair_unless : (b : Bool) (e : Refusal) (h : House) (x : Outcome) → (b ≡ false → Fair h x) → Fair h (refuse_if b e h x)
+fair_unless true e h x f = fair_refused e h
+fair_unless false e h x f = f refl
 
-fair-if : (b : Bool) (e : Refusal) (h : House) (x : Outcome) → Fair h x → Fair h (refuseIf b e h x)
-fair-if b e h x f = fair-unless b e h x (λ _. f)
+fair_if : (b : Bool) (e : Refusal) (h : House) (x : Outcome) → Fair h x → Fair h (refuse_if b e h x)
+fair_if b e h x f = fair_unless b e h x (λ _. f)
 
-fair-cond : (b : Bool) (h : House) (x y : Outcome) → Fair h x → Fair h y → Fair h (cond b x y)
-fair-cond true h x y f g = f
-fair-cond false h x y f g = g
+fair_cond : (b : Bool) (h : House) (x y : Outcome) → Fair h x → Fair h y → Fair h (cond b x y)
+fair_cond true h x y f g = f
+fair_cond false h x y f g = g
 
 -- a table that is the old one or one of the same house
-fair-heap : {X : Type 0} (r : Result X Refusal) (b : Bool) (new : Heap) (h : House) → new .home ≡ h .heap .home → new .houses ≡ h .heap .houses → Fair h (quietly r (cond b new (h .heap)) h)
-fair-heap (Err e) b new h p q = fair-refused e h
-fair-heap (Ok x) true new h p q = fair-sends [] h (withHeap new h) p q
-fair-heap (Ok x) false new h p q = fair-sends [] h h refl refl
+fair_heap : {X : Type 0} (r : Result X Refusal) (b : Bool) (new : Heap) (h : House) → new.home ≡ h.heap.home → new.houses ≡ h.heap.houses → Fair h (quietly r (cond b new h.heap) h)
+fair_heap (Err e) b new h p q = fair_refused e h
+fair_heap (Ok x) true new h p q = fair_sends [] h (with_heap new h) p q
+fair_heap (Ok x) false new h p q = fair_sends [] h h refl refl
 
-pub up-home : (b : Bool) (c : ℕ) (h : House) → (cond b (inCensus c h) h .heap .home ≡ h .heap .home) × (cond b (inCensus c h) h .heap .houses ≡ h .heap .houses)
-up-home true c h = (refl, refl)
-up-home false c h = (refl, refl)
+pub up_home : (b : Bool) (c : ℕ) (h : House) → ((cond b (in_census c h) h).heap.home ≡ h.heap.home) × ((cond b (in_census c h) h).heap.houses ≡ h.heap.houses)
+up_home true c h = (refl, refl)
+up_home false c h = (refl, refl)
 
-took-home : (b : Bool) (o : ℕ) (h : House) → (cond b (rooted o (h .heap)) (h .heap) .home ≡ h .heap .home) × (cond b (rooted o (h .heap)) (h .heap) .houses ≡ h .heap .houses)
-took-home true o h = (refl, refl)
-took-home false o h = (refl, refl)
+took_home : (b : Bool) (o : ℕ) (h : House) → ((cond b (rooted o h.heap) h.heap).home ≡ h.heap.home) × ((cond b (rooted o h.heap) h.heap).houses ≡ h.heap.houses)
+took_home true o h = (refl, refl)
+took_home false o h = (refl, refl)
 
 -- once caught up, a house is in the census
-pub up-census : (c : ℕ) (h : House) → ltb c (census h) ≡ false → census (caughtUp c h) ≡ c
-up-census c h low =
-    by-cases (ltb (census h) c) (λ e. rw e)
+pub up_census : (c : ℕ) (h : House) → ltb c (census h) ≡ false → census (caught_up c h) ≡ c
+up_census c h low =
+    by_cases (ltb (census h) c) (λ e. rw e)
     (λ e. let a = ltb-false c (census h) low in let b = ltb-false (census h) c e in let same : census h ≡ c = omega arith in rw e same)
 
-fair-stamped : (r : Result Stamp Refusal) (o j : ℕ) (h : House) → Fair h (stamped r o j h)
-fair-stamped (Err e) o j h = fair-refused e h
-fair-stamped (Ok s) o j h = fair-if (not (belongs (self h) (houses h) o j)) Malformed h _ (fair-sends _ h _ refl refl)
+fair_stamped : (r : Result Stamp Refusal) (o j : ℕ) (h : House) → Fair h (stamped r o j h)
+fair_stamped (Err e) o j h = fair_refused e h
+fair_stamped (Ok s) o j h = fair_if (not (belongs (self h) (houses h) o j)) Malformed h _ (fair_sends _ h _ refl refl)
 
-fair-took : (r : Result (Unit {0}) Refusal) (o s : ℕ) (h : House) → Fair h (tookIt r o s h)
-fair-took (Err e) o s h = fair-refused e h
-fair-took (Ok u) o s h = fair-sends [] h _ (took-home (isOk (takeAnswer o (h .heap))) o h .0) (took-home (isOk (takeAnswer o (h .heap))) o h .1)
+fair_took : (r : Result (Unit {0}) Refusal) (o s : ℕ) (h : House) → Fair h (took_it r o s h)
+fair_took (Err e) o s h = fair_refused e h
+fair_took (Ok u) o s h = fair_sends [] h _ (took_home (is_ok (take_answer o h.heap)) o h).0 (took_home (is_ok (take_answer o h.heap)) o h).1
 
-fair-replies : (c r : ℕ) (h g : House) → g .heap .home ≡ h .heap .home → g .heap .houses ≡ h .heap .houses → census g ≡ c → Fair h (repliesTo c r g)
-fair-replies c r h g p q e = let same : eqb c (census g) ≡ true = eq-eqb c (census g) (sym e) in rw same (fair-sends _ h (withPart _ g) p q)
+fair_replies : (c r : ℕ) (h g : House) → g.heap.home ≡ h.heap.home → g.heap.houses ≡ h.heap.houses → census g ≡ c → Fair h (replies_to c r g)
+fair_replies c r h g p q e = let same : eqb c (census g) ≡ true = eq-eqb c (census g) (sym e) in rw same (fair_sends _ h (with_part _ g) p q)
 
-fair-handed : (o by j : ℕ) (h : House) → Fair h (handed o by j h)
-fair-handed o by j h =
-    fair-if (not (eqb (home o) (self h))) Misdelivered h _
-    (fair-if (not (present o (h .heap .objects))) NotHere h _
-    (fair-if (not (authorised o by h)) NotHolder h _
-    (fair-cond (eqb j (self h)) h _ _
-    (fair-heap (keepAnswer o (h .heap)) (isOk (keepAnswer o (h .heap))) (rooted o (h .heap)) h refl refl)
-    (fair-if (not (fits o j (h .list) 2048)) NoRoom h _ (fair-stamped (nextFor j (h .stamps)) o j h)))))
+fair_handed : (o by j : ℕ) (h : House) → Fair h (handed o by j h)
+fair_handed o by j h =
+    fair_if (not (eqb (home o) (self h))) Misdelivered h _
+    (fair_if (not (present o h.heap.objects)) NotHere h _
+    (fair_if (not (authorised o by h)) NotHolder h _
+    (fair_cond (eqb j (self h)) h _ _
+    (fair_heap (keep_answer o h.heap) (is_ok (keep_answer o h.heap)) (rooted o h.heap) h refl refl)
+    (fair_if (not (fits o j h.list 2048)) NoRoom h _ (fair_stamped (next_for j h.stamps) o j h)))))
 
-fair-receives : (m : Message) (part : List ℕ) (h : House) → Fair h (receives m part h)
-fair-receives (message.Ask o by j) part h = fair-handed (o .0) (by .0) (j .0) h
-fair-receives (message.Give o j s) part h =
-    fair-if (not (eqb (j .0) (self h)) || eqb (home (o .0)) (self h)) Misdelivered h _ (fair-if (leb (s .0) (seenFrom (h .stamps) (home (o .0)))) OldStamp h _ (fair-took (takeAnswer (o .0) (h .heap)) (o .0) (s .0) h))
-fair-receives (message.Word from to s p) part h = fair-if (not (eqb (to .0) (self h))) Misdelivered h _ (fair-sends [] h _ refl refl)
-fair-receives (message.Telling c o from) part h =
-    let up = up-home (ltb (census h) (c .0)) (c .0) h in
-    fair-if (not (eqb (home (o .0)) (self h))) Misdelivered h _ (fair-if (ltb (c .0) (census h)) OtherCensus h _ (fair-sends _ h (marks (c .0) (o .0) (from .0) (caughtUp (c .0) h)) (up .0) (up .1)))
-fair-receives (message.Answer c o from) part h =
-    fair-if (not (eqb (from .0) (self h))) Misdelivered h _ (fair-if (not (eqb (c .0) (census h))) OtherCensus h _ (fair-sends [] h _ refl refl))
-fair-receives (message.Round c r) part h =
-    let up = up-home (ltb (census h) (c .0)) (c .0) h in
-    fair-unless (ltb (c .0) (census h)) OtherCensus h _ (λ low. fair-replies (c .0) (r .0) h (caughtUp (c .0) h) (up .0) (up .1) (up-census (c .0) h low))
-fair-receives (message.Reply c r from calm t) part h = fair-if (not (asks (self h))) Misdelivered h _ (fair-if (not (eqb (c .0) (census h))) OtherCensus h _ (fair-sends _ h _ refl refl))
-fair-receives (message.Complete c) part h = fair-if (not (eqb (c .0) (census h))) OtherCensus h _ (fair-sends [] h _ refl refl)
+fair_receives : (m : Message) (part : List ℕ) (h : House) → Fair h (receives m part h)
+fair_receives (message.Ask o by j) part h = fair_handed o.0 by.0 j.0 h
+fair_receives (message.Give o j s) part h =
+    fair_if (not (eqb j.0 (self h)) || eqb (home o.0) (self h)) Misdelivered h _ (fair_if (leb s.0 (seen_from h.stamps (home o.0))) OldStamp h _ (fair_took (take_answer o.0 h.heap) o.0 s.0 h))
+fair_receives (message.Word from to s p) part h = fair_if (not (eqb to.0 (self h))) Misdelivered h _ (fair_sends [] h _ refl refl)
+fair_receives (message.Telling c o from) part h =
+    let up = up_home (ltb (census h) c.0) c.0 h in
+    fair_if (not (eqb (home o.0) (self h))) Misdelivered h _ (fair_if (ltb c.0 (census h)) OtherCensus h _ (fair_sends _ h (marks c.0 o.0 from.0 (caught_up c.0 h)) up.0 up.1))
+fair_receives (message.Answer c o from) part h =
+    fair_if (not (eqb from.0 (self h))) Misdelivered h _ (fair_if (not (eqb c.0 (census h))) OtherCensus h _ (fair_sends [] h _ refl refl))
+fair_receives (message.Round c r) part h =
+    let up = up_home (ltb (census h) c.0) c.0 h in
+    fair_unless (ltb c.0 (census h)) OtherCensus h _ (λ low. fair_replies c.0 r.0 h (caught_up c.0 h) up.0 up.1 (up_census c.0 h low))
+fair_receives (message.Reply c r from calm t) part h = fair_if (not (asks (self h))) Misdelivered h _ (fair_if (not (eqb c.0 (census h))) OtherCensus h _ (fair_sends _ h _ refl refl))
+fair_receives (message.Complete c) part h = fair_if (not (eqb c.0 (census h))) OtherCensus h _ (fair_sends [] h _ refl refl)
 
-fair-read : (r : Result Message Refusal) (bs : List ℕ) (h : House) → Fair h (readAs r bs h)
-fair-read (Err e) bs h = fair-refused e h
-fair-read (Ok m) bs h = fair-receives m _ h
+fair_read : (r : Result Message Refusal) (bs : List ℕ) (h : House) → Fair h (read_as r bs h)
+fair_read (Err e) bs h = fair_refused e h
+fair_read (Ok m) bs h = fair_receives m _ h
 
-fair-begins : (r : Result ℕ Refusal) (h : House) → Fair h (begins r h)
-fair-begins (Err e) h = fair-refused e h
-fair-begins (Ok r) h = fair-sends _ h _ refl refl
+fair_begins : (r : Result ℕ Refusal) (h : House) → Fair h (begins r h)
+fair_begins (Err e) h = fair_refused e h
+fair_begins (Ok r) h = fair_sends _ h _ refl refl
 
-pub always-fair : AlwaysFair
-always-fair h (make k) = fair-heap (makeAnswer k (h .heap)) (isOk (makeAnswer k (h .heap))) (madeNew k (h .heap)) h refl refl
-always-fair h (link o p) = fair-heap (linkAnswer o p (h .heap)) (isOk (linkAnswer o p (h .heap))) (linkedTo o p (h .heap)) h refl refl
-always-fair h (unlink o p) = fair-heap (unlinkAnswer o p (h .heap)) (isOk (unlinkAnswer o p (h .heap))) (unlinkedFrom o p (h .heap)) h refl refl
-always-fair h (load o p) = fair-heap (loadAnswer o p (h .heap)) (isOk (loadAnswer o p (h .heap))) (rooted p (h .heap)) h refl refl
-always-fair h (drop o) = fair-heap (dropAnswer o (h .heap)) (isOk (dropAnswer o (h .heap))) (unrooted o (h .heap)) h refl refl
-always-fair h (ask o j) = fair-if (malformed o (h .heap) || leb (houses h) j) Malformed h _ (fair-if (not (isIn o (h .heap .roots))) NotRoot h _ (fair-sends _ h h refl refl))
-always-fair h collect = fair-sends [] h _ refl refl
-always-fair h (word j) = fair-if (leb (houses h) j) Malformed h _ (fair-if (eqb j (self h)) WrongHouse h _ (fair-sends _ h h refl refl))
-always-fair h (join c) = fair-if (leb c (census h) || ltb 4294967295 c) OutOfNumbers h _ (fair-sends [] h (inCensus c h) refl refl)
-always-fair h tell = fair-sends _ h _ refl refl
-always-fair h round = fair-if (not (asks (self h))) WrongHouse h _ (fair-begins (beginning (houses h) (h .desk)) h)
-always-fair h (came bs) = fair-read (decode (houses h) bs) bs h
+pub always_fair : AlwaysFair
+always_fair h (make k) = fair_heap (make_answer k h.heap) (is_ok (make_answer k h.heap)) (made_new k h.heap) h refl refl
+always_fair h (link o p) = fair_heap (link_answer o p h.heap) (is_ok (link_answer o p h.heap)) (linked_to o p h.heap) h refl refl
+always_fair h (unlink o p) = fair_heap (unlink_answer o p h.heap) (is_ok (unlink_answer o p h.heap)) (unlinked_from o p h.heap) h refl refl
+always_fair h (load o p) = fair_heap (load_answer o p h.heap) (is_ok (load_answer o p h.heap)) (rooted p h.heap) h refl refl
+always_fair h (drop o) = fair_heap (drop_answer o h.heap) (is_ok (drop_answer o h.heap)) (unrooted o h.heap) h refl refl
+always_fair h (ask o j) = fair_if (malformed o h.heap || leb (houses h) j) Malformed h _ (fair_if (not (is_in o h.heap.roots)) NotRoot h _ (fair_sends _ h h refl refl))
+always_fair h collect = fair_sends [] h _ refl refl
+always_fair h (word j) = fair_if (leb (houses h) j) Malformed h _ (fair_if (eqb j (self h)) WrongHouse h _ (fair_sends _ h h refl refl))
+always_fair h (join c) = fair_if (leb c (census h) || ltb 4294967295 c) OutOfNumbers h _ (fair_sends [] h (in_census c h) refl refl)
+always_fair h tell = fair_sends _ h _ refl refl
+always_fair h round = fair_if (not (asks (self h))) WrongHouse h _ (fair_begins (beginning (houses h) h.desk) h)
+always_fair h (came bs) = fair_read (decode (houses h) bs) bs h

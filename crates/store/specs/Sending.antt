@@ -1,36 +1,29 @@
 -- The bytes of messages that are sent.
-use mathlib.Core.Path.{_≡_}
-use mathlib.Core.Bool.{true}
-use mathlib.Core.List.{List, [], _∷_, _++_, map}
-use Prim.Native.Nat.{ℕ}
-use Rattle·std.specs.Of.Vec.{vec-items}
-use Rattle·std.specs.Results.{isOk}
-use Rattle·std.specs.declared.result.Result.{Result}
-use Rattle·std.specs.declared.alloc.AllocError.{AllocError}
-use Rattle·std.specs.declared.alloc.Global.{Global}
-use Rattle·std.specs.declared.vec.Vec.{Vec}
-use Rattle·wire.specs.declared.message.Message.the-variants.{Telling}
-use Rattle·wire.specs.declared.names.Census.{Census}
-use Rattle·wire.specs.declared.names.House.{House}
-use Rattle·wire.specs.declared.names.Name.{Name}
-use Rattle·wire.specs.Format.{encode}
-use Rattle·wire.specs.Names.{name}
-use Rattle·tables.specs.Shown.{numbers}
-use Rattle·rules.specs.Step.{Letter, letter}
+use Rattle.std.specs.Prelude.{◌≡◌, ℕ, true, List, [], ◌∷◌, ◌++◌, map, is_ok, vec_items, Result, Vec}
+use Rattle.std.specs.declared.alloc.AllocError.{AllocError}
+use Rattle.std.specs.declared.alloc.Global.{Global}
+use Rattle.wire.specs.declared.message.Message.TheVariants.{Telling}
+use Rattle.wire.specs.declared.names.Census.{Census}
+use Rattle.wire.specs.declared.names.House.{House}
+use Rattle.wire.specs.declared.names.Name.{Name}
+use Rattle.wire.specs.Format.{encode}
+use Rattle.wire.specs.Names.{name}
+use Rattle.tables.specs.Shown.{numbers}
+use Rattle.rules.specs.Step.{Letter, letter}
 
-abbrev pub bytesOf : Letter → List ℕ
-bytesOf l = encode (l .0) (l .1)
+abbrev pub bytes_of : Letter → List ℕ
+bytes_of l = encode l.0 l.1
 
-abbrev pub itemsIn : Vec ℕ Global → List ℕ
-itemsIn v = vec-items v
+abbrev pub items_in : Vec ℕ Global → List ℕ
+items_in v = vec_items v
 
 -- what several byte strings hold
 abbrev pub contents : Vec (Vec ℕ Global) Global → List (List ℕ)
-contents v = map itemsIn (vec-items v)
+contents v = map items_in (vec_items v)
 
 abbrev pub tellings : Census → House → List Name → List Letter
 tellings c from ns = map (λ o. letter (Telling c (name o) from)) (numbers ns)
 
 -- with memory enough, these come after what was there
 abbrev pub Posts : Result (Unit {0}) AllocError → Vec (Vec ℕ Global) Global → Vec (Vec ℕ Global) Global → List (List ℕ) → Type 0
-Posts r before after new = isOk r ≡ true → contents after ≡ contents before ++ new
+Posts r before after new = is_ok r ≡ true → contents after ≡ contents before ++ new

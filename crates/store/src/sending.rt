@@ -1,21 +1,15 @@
-ghost use mathlib.Core.Path.{_≡_};
-ghost use mathlib.Core.List.{map, _∷_, []};
-ghost use Rattle·std.specs.Of.Vec.{vec-items};
-ghost use Rattle·std.specs.Vec.{made};
-ghost use Rattle·wire.specs.Format.{encode};
-ghost use Rattle·node.specs.Shown.{letters};
-ghost use Rattle·store·specs.Sending.{bytesOf, contents, tellings, Posts};
+ghost use Rattle.std.specs.Prelude.{◌≡◌, [], ◌∷◌, map, IfOk};
+ghost use Rattle.wire.specs.Format.{encode};
+ghost use Rattle.node.specs.Shown.{letters};
+ghost use Rattle.store.specs.Sending.{bytes_of, contents, tellings, Posts};
+
 use node::Sent;
-use std::alloc::AllocError;
-use std::alloc::Global;
-use wire::Census;
-use wire::House;
-use wire::Message;
-use wire::Name;
+use std::alloc::{AllocError, Global};
+use wire::{Census, House, Message, Name};
 
 // The bytes of one message, with a word's objects beside it.
 fn message_bytes(heap: Global, message: Message, objects: &[u8]) -> Result<Vec<u8>, AllocError>
-    ensures { λ r. ⌜ made r (λ v. vec-items v ≡ encode message (now (objects .entry))) ⌝ }
+    ensures { IfOk result (λ v. v.items ≡ encode message objects.now) }
 {
     let mut out = Vec::new(heap);
     wire::write(message, objects, &mut out)?;
@@ -29,7 +23,7 @@ fn post_one(
     objects: &[u8],
     out: &mut Vec<Vec<u8>>,
 ) -> Result<(), AllocError>
-    ensures { λ r. ⌜ Posts r (now (out .entry)) (now (out .exit)) (encode message (now (objects .entry)) ∷ []) ⌝ }
+    ensures { Posts result out.old out.new (encode message objects.now ∷ []) }
 {
     let bytes = message_bytes(heap, message, objects)?;
     out.push(bytes)?;
@@ -43,7 +37,7 @@ fn post_tellings(
     names: &[Name],
     out: &mut Vec<Vec<u8>>,
 ) -> Result<(), AllocError>
-    ensures { λ r. ⌜ Posts r (now (out .entry)) (now (out .exit)) (map bytesOf (tellings census from (now (names .entry)))) ⌝ }
+    ensures { Posts result out.old out.new (map bytes_of (tellings census from names.now)) }
 {
     for name in names {
         let telling = Message::Telling {
@@ -58,7 +52,7 @@ fn post_tellings(
 
 // The bytes of each message that a step sends, in their order, after what was posted before. Where memory is wanting some may be there and others not.
 pub fn post(heap: Global, sent: &Sent, out: &mut Vec<Vec<u8>>) -> Result<(), AllocError>
-    ensures { λ r. ⌜ Posts r (now (out .entry)) (now (out .exit)) (map bytesOf (letters (now (sent .entry)))) ⌝ }
+    ensures { Posts result out.old out.new (map bytes_of (letters sent.now)) }
 {
     match sent {
         Sent::Nothing => Ok(()),

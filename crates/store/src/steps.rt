@@ -1,26 +1,22 @@
-ghost use mathlib.Core.Path.{_≡_};
-ghost use Rattle·std.specs.Results.{Cases};
-ghost use Rattle·objects.specs.Calls.{Unmade};
-ghost use Rattle·rules.specs.House.{empty};
-ghost use Rattle·rules.specs.Step.{came, eventOf};
-ghost use Rattle·node.specs.Events.{eventIn};
-ghost use Rattle·node.specs.Shown.{Does};
-ghost use Rattle·store·specs.Stores.{houseIn};
+ghost use Rattle.std.specs.Prelude.{◌≡◌, MatchResult};
+ghost use Rattle.objects.specs.Calls.{Unmade};
+ghost use Rattle.rules.specs.House.{empty};
+ghost use Rattle.rules.specs.Step.{came, event_of};
+ghost use Rattle.node.specs.Events.{event_in};
+ghost use Rattle.node.specs.Shown.{Does};
+ghost use Rattle.store.specs.Stores.{house_in};
+
 use crate::table::Store;
 use lines::Lines;
-use node::Answer;
-use node::Event;
-use node::Head;
-use objects::Fault;
-use objects::Objects;
+use node::{Answer, Event, Head};
+use objects::{Fault, Objects};
 use std::alloc::Global;
-use wire::Call;
-use wire::House;
+use wire::{Call, House};
 
 impl Store {
     // House `home` of `houses`, with nothing in it.
     pub fn new(heap: Global, home: House, houses: u8) -> Result<Store, Fault>
-        ensures { λ r. ⌜ Cases r (λ s. houseIn s ≡ empty (home .0) houses) (λ e. Unmade (home .0) houses e) ⌝ }
+        ensures { MatchResult result (λ s. house_in s ≡ empty home.0 houses) (λ e. Unmade home.0 houses e) }
     {
         let objects = Objects::new(heap, home, houses)?;
         Ok(Store {
@@ -39,21 +35,21 @@ impl Store {
 
     // A call of the house's programs, or of its collector.
     pub fn call(&mut self, call: Call) -> Answer
-        ensures { λ r. ⌜ Does r (eventOf call) (houseIn (now (self .entry))) (houseIn (now (self .exit))) ⌝ }
+        ensures { Does result (event_of call) (house_in self.old) (house_in self.new) }
     {
         self.step(called(call))
     }
 
     // These bytes came to the house, whatever they are.
     pub fn got(&mut self, bytes: &[u8]) -> Answer
-        ensures { λ r. ⌜ Does r (came (now (bytes .entry))) (houseIn (now (self .entry))) (houseIn (now (self .exit))) ⌝ }
+        ensures { Does result (came bytes.now) (house_in self.old) (house_in self.new) }
     {
         self.step(Event::Came(bytes))
     }
 
     // The house lends its tables for a step.
     fn step(&mut self, event: Event<'_>) -> Answer
-        ensures { λ r. ⌜ Does r (eventIn (event .entry)) (houseIn (now (self .entry))) (houseIn (now (self .exit))) ⌝ }
+        ensures { Does result (event_in event.entry) (house_in self.old) (house_in self.new) }
     {
         let head = std::mem::replace(&mut self.head, Head::new(self.heap));
         let mut list = Lines {
@@ -76,7 +72,7 @@ impl Store {
 
 // A call as an event: no bytes came with it.
 fn called<'a>(call: Call) -> Event<'a>
-    ensures { λ r. ⌜ eventIn r ≡ eventOf call ⌝ }
+    ensures { event_in result ≡ event_of call }
 {
     Event::Call(call)
 }

@@ -1,7 +1,7 @@
-ghost use mathlib.Core.Path.{_≡_};
-ghost use Prim.Native.Nat.{_≤_};
-ghost use Rattle·lines.specs.Columns.{Alone, Own, Far};
-ghost use Rattle·objects.specs.Calls.{heapOf};
+ghost use Rattle.std.specs.Prelude.{◌≡◌, ◌≤◌};
+ghost use Rattle.lines.specs.Columns.{Alone, Own, Far};
+ghost use Rattle.objects.specs.Calls.{heap_of};
+
 use node::Head;
 use objects::Objects;
 use std::alloc::Global;
@@ -23,8 +23,8 @@ pub struct Store {
     ghost within: { len ≤ 2048 },
     ghost sixteen: { houses ≤ 16 },
     ghost alone: { Alone held holders len },
-    ghost own: { Own (home .0) held len },
-    ghost far: { Far (home .0) houses holders len },
-    ghost here: { heapOf objects .home ≡ home .0 },
-    ghost all: { heapOf objects .houses ≡ houses },
+    ghost own: { Own home.0 held len },
+    ghost far: { Far home.0 houses holders len },
+    ghost here: { (heap_of objects).home ≡ home.0 },
+    ghost all: { (heap_of objects).houses ≡ houses },
 }

@@ -1,261 +1,251 @@
 -- Places in rising lists.
-use mathlib.Core.Path.{_≡_, refl, sym, ap, subst, _∙_}
-use mathlib.Core.Bool.{Bool, true, false, cond, _&&_, _||_}
-use mathlib.Core.Logic.{_⊎_, inl, inr, ⊎-elim}
-use mathlib.Core.List.{List, [], _∷_, map}
-use Prim.Native.Nat.{ℕ, zero, suc, _+_, _-_, _<_, _≤_}
-use native.Mathlib.Omega.{arith}
-use lib.Dec.{eqb, ltb, leb}
-use lib.ListN.{length, getD}
-use Rattle·std.proofs.shelf.Tests.{ltb-true, ltb-false, lt-ltb, le-ltb, and-parts, cond-true, cond-false, cases-lt, eq-eqb, ne-eqb, cases-eq, eqb-true, or-left, or-right, or-from, or-cases, or-parts, and-from, cases-bool, both-ways, cond-both, eqb-false}
-use Rattle·std.proofs.shelf.Lists.{getD-map, length-map}
-use Rattle·std.specs.Holes.{inserted, removed}
-use Rattle·std.specs.Options.{isSome}
-use Rattle·std.specs.declared.option.Option.{Option}
-use Rattle·std.specs.declared.option.Option.the-variants.{Some, None}
-use Rattle·tables·specs.declared.object.Object.{Object}
-use Rattle·tables·specs.Shown.{objectsOf, namesIn, number, numbers}
-use Rattle·wire.specs.declared.names.Name.{Name}
-use Rattle·wire.specs.Names.{name}
-use Rattle·tables·specs.Model.{below, above, rising, isIn, placeOf, names, added, without, withoutFirst}
+use Rattle.std.proofs.Common.{◌≡◌, ℕ, zero, suc, ◌+◌, ◌-◌, ◌<◌, ◌≤◌, Bool, true, false, cond, ◌&&◌, ◌||◌, eqb, ltb, leb, ◌⊎◌, List, [], ◌∷◌, map, length, get_or, is_some, Some, None, Option, sym, refl, ap, ◌∙◌, subst, inl, inr, ⊎_elim, arith}
+use Rattle.std.proofs.lemmas.Bool.{ltb-true, ltb-false, lt-ltb, le-ltb, and_parts, cond-true, cond-false, cases_lt, eq-eqb, ne_eqb, cases_eq, eqb-true, or_left, or_right, or_from, or_cases, or_parts, and_from, cases_Bool, both_ways, cond_both, eqb-false}
+use Rattle.std.proofs.lemmas.List.{get_or-map, length-map}
+use Rattle.std.specs.List.{insert, remove}
+use Rattle.tables.specs.declared.object.Object.{Object}
+use Rattle.tables.specs.Shown.{objects_of, names_in, number, numbers}
+use Rattle.wire.specs.declared.names.Name.{Name}
+use Rattle.wire.specs.Names.{name}
+use Rattle.tables.specs.Model.{below, above, rising, is_in, place_of, names, added, without, without_first}
 
-pub above-at : (x : ℕ) (xs : List ℕ) (k : ℕ) → above x xs ≡ true → k < length xs → x < getD xs k 0
-above-at x [] k a h = absurd (omega arith)
-above-at x (y ∷ xs) zero a h = ltb-true x y (and-parts (ltb x y) (above x xs) a .0)
-above-at x (y ∷ xs) (suc k) a h = above-at x xs k (and-parts (ltb x y) (above x xs) a .1) (omega arith)
+pub above_at : (x : ℕ) (xs : List ℕ) (k : ℕ) → above x xs ≡ true → k < length xs → x < get_or xs k 0
+above_at x [] k a h = absurd (omega arith)
+above_at x (y ∷ xs) zero a h = ltb-true x y (and_parts (ltb x y) (above x xs) a).0
+above_at x (y ∷ xs) (suc k) a h = above_at x xs k (and_parts (ltb x y) (above x xs) a).1 (omega arith)
 
 module _ (o : ℕ) where
-  pub below-within : (xs : List ℕ) → below o xs ≤ length xs
-  below-within [] = omega arith
-  below-within (x ∷ xs) =
-      ⊎-elim
-      (λ h. rw (lt-ltb x o h) (omega (arith, below-within xs)))
+  pub below_within : (xs : List ℕ) → below o xs ≤ length xs
+  below_within [] = omega arith
+  below_within (x ∷ xs) =
+      ⊎_elim
+      (λ h. rw (lt-ltb x o h) (omega (arith, below_within xs)))
       (λ h. rw (le-ltb x o h) (omega arith))
-      (cases-lt x o)
+      (cases_lt x o)
 
   -- what is below o stands before its place
-  pub below-less : (xs : List ℕ) (k : ℕ) → rising xs ≡ true → k < length xs → getD xs k 0 < o → k < below o xs
-  below-less [] k r h l = absurd (omega arith)
-  below-less (x ∷ xs) zero r h l = rw (lt-ltb x o l) (omega arith)
-  below-less (x ∷ xs) (suc k) r h l =
-      let p = and-parts (above x xs) (rising xs) r in
-      let i = below-less xs k (p .1) (omega arith) l in
-      let a = above-at x xs k (p .0) (omega arith) in
+  pub below_less : (xs : List ℕ) (k : ℕ) → rising xs ≡ true → k < length xs → get_or xs k 0 < o → k < below o xs
+  below_less [] k r h l = absurd (omega arith)
+  below_less (x ∷ xs) zero r h l = rw (lt-ltb x o l) (omega arith)
+  below_less (x ∷ xs) (suc k) r h l =
+      let p = and_parts (above x xs) (rising xs) r in
+      let i = below_less xs k p.1 (omega arith) l in
+      let a = above_at x xs k p.0 (omega arith) in
       let t : ltb x o ≡ true = lt-ltb x o (omega arith) in
       rw t (omega arith)
 
   -- and what is not, does not
-  pub below-more : (xs : List ℕ) (k : ℕ) → rising xs ≡ true → k < length xs → o ≤ getD xs k 0 → below o xs ≤ k
-  below-more [] k r h l = absurd (omega arith)
-  below-more (x ∷ xs) zero r h l = rw (le-ltb x o l) (omega arith)
-  below-more (x ∷ xs) (suc k) r h l =
-      let p = and-parts (above x xs) (rising xs) r in
-      let i = below-more xs k (p .1) (omega arith) l in
-      ⊎-elim
+  pub below_more : (xs : List ℕ) (k : ℕ) → rising xs ≡ true → k < length xs → o ≤ get_or xs k 0 → below o xs ≤ k
+  below_more [] k r h l = absurd (omega arith)
+  below_more (x ∷ xs) zero r h l = rw (le-ltb x o l) (omega arith)
+  below_more (x ∷ xs) (suc k) r h l =
+      let p = and_parts (above x xs) (rising xs) r in
+      let i = below_more xs k p.1 (omega arith) l in
+      ⊎_elim
       (λ g. rw (lt-ltb x o g) (omega arith))
       (λ g. rw (le-ltb x o g) (omega arith))
-      (cases-lt x o)
+      (cases_lt x o)
 
 -- what a table holds at a place, by its names
-pub read-map : {X : Type 0} (f : X → ℕ) (xs : List X) (i : ℕ) (x : X) → i < length xs → x ≡ getD xs i x → getD (map f xs) i 0 ≡ f x
-read-map f xs i x h e = getD-map f xs i x 0 h ∙ ap f (sym e)
+pub read_map : {X : Type 0} (f : X → ℕ) (xs : List X) (i : ℕ) (x : X) → i < length xs → x ≡ get_or xs i x → get_or (map f xs) i 0 ≡ f x
+read_map f xs i x h e = get_or-map f xs i x 0 h ∙ ap f (sym e)
 
-pub isIn-at : (o : ℕ) (xs : List ℕ) (k : ℕ) → k < length xs → getD xs k 0 ≡ o → isIn o xs ≡ true
-isIn-at o [] k h e = absurd (omega arith)
-isIn-at o (x ∷ xs) zero h e = or-left (eqb x o) (isIn o xs) (eq-eqb x o e)
-isIn-at o (x ∷ xs) (suc k) h e = or-right (eqb x o) (isIn o xs) (isIn-at o xs k (omega arith) e)
+pub is_in_at : (o : ℕ) (xs : List ℕ) (k : ℕ) → k < length xs → get_or xs k 0 ≡ o → is_in o xs ≡ true
+is_in_at o [] k h e = absurd (omega arith)
+is_in_at o (x ∷ xs) zero h e = or_left (eqb x o) (is_in o xs) (eq-eqb x o e)
+is_in_at o (x ∷ xs) (suc k) h e = or_right (eqb x o) (is_in o xs) (is_in_at o xs k (omega arith) e)
 
-pub above-out : (o x : ℕ) (xs : List ℕ) → above x xs ≡ true → o ≤ x → isIn o xs ≡ false
-above-out o x [] a l = refl
-above-out o x (y ∷ xs) a l =
-    let p = and-parts (ltb x y) (above x xs) a in
-    let g = ltb-true x y (p .0) in
-    or-from (eqb y o) (isIn o xs) (ne-eqb y o (λ e. omega arith)) (above-out o x xs (p .1) l)
+pub above_out : (o x : ℕ) (xs : List ℕ) → above x xs ≡ true → o ≤ x → is_in o xs ≡ false
+above_out o x [] a l = refl
+above_out o x (y ∷ xs) a l =
+    let p = and_parts (ltb x y) (above x xs) a in
+    let g = ltb-true x y p.0 in
+    or_from (eqb y o) (is_in o xs) (ne_eqb y o (λ e. omega arith)) (above_out o x xs p.1 l)
 
 -- what does not stand at its place is not there
-pub isIn-none : (o : ℕ) (xs : List ℕ) → rising xs ≡ true → (below o xs < length xs → getD xs (below o xs) 0 ≡ o → ⊥) → isIn o xs ≡ false
-isIn-none o [] r f = refl
-isIn-none o (x ∷ xs) r f =
-    let p = and-parts (above x xs) (rising xs) r in
-    ⊎-elim
+pub is_in_none : (o : ℕ) (xs : List ℕ) → rising xs ≡ true → (below o xs < length xs → get_or xs (below o xs) 0 ≡ o → ⊥) → is_in o xs ≡ false
+is_in_none o [] r f = refl
+is_in_none o (x ∷ xs) r f =
+    let p = and_parts (above x xs) (rising xs) r in
+    ⊎_elim
     (λ h. let b : below o (x ∷ xs) ≡ suc (below o xs) = cond-true (ltb x o) (suc (below o xs)) 0 (lt-ltb x o h) in
-    or-from (eqb x o) (isIn o xs) (ne-eqb x o (λ e. omega arith)) (isIn-none o xs (p .1) (λ l e. f (omega arith) (ap (λ k. getD (x ∷ xs) k 0) b ∙ e))))
+    or_from (eqb x o) (is_in o xs) (ne_eqb x o (λ e. omega arith)) (is_in_none o xs p.1 (λ l e. f (omega arith) (ap (λ k. get_or (x ∷ xs) k 0) b ∙ e))))
     (λ h. let b : below o (x ∷ xs) ≡ 0 = cond-false (ltb x o) (suc (below o xs)) 0 (le-ltb x o h) in
-    or-from (eqb x o) (isIn o xs) (ne-eqb x o (λ e. f (omega arith) (ap (λ k. getD (x ∷ xs) k 0) b ∙ e))) (above-out o x xs (p .0) h))
-    (cases-lt x o)
+    or_from (eqb x o) (is_in o xs) (ne_eqb x o (λ e. f (omega arith) (ap (λ k. get_or (x ∷ xs) k 0) b ∙ e))) (above_out o x xs p.0 h))
+    (cases_lt x o)
 
-pub place-there : (o : ℕ) (xs : List ℕ) (at : ℕ) → at ≡ below o xs → at < length xs → getD xs at 0 ≡ o → Some at ≡ placeOf o xs
-place-there o xs at b l e = ap Some b ∙ sym (cond-true (isIn o xs) (Some (below o xs)) None (isIn-at o xs at l e))
+pub place_there : (o : ℕ) (xs : List ℕ) (at : ℕ) → at ≡ below o xs → at < length xs → get_or xs at 0 ≡ o → Some at ≡ place_of o xs
+place_there o xs at b l e = ap Some b ∙ sym (cond-true (is_in o xs) (Some (below o xs)) None (is_in_at o xs at l e))
 
-pub place-none : (o : ℕ) (xs : List ℕ) (at : ℕ) → at ≡ below o xs → rising xs ≡ true → (at < length xs → getD xs at 0 ≡ o → ⊥) → None ≡ placeOf o xs
-place-none o xs at b r f =
-    sym (cond-false (isIn o xs) (Some (below o xs)) None (isIn-none o xs r (subst (λ k. k < length xs → getD xs k 0 ≡ o → ⊥) b f)))
+pub place_none : (o : ℕ) (xs : List ℕ) (at : ℕ) → at ≡ below o xs → rising xs ≡ true → (at < length xs → get_or xs at 0 ≡ o → ⊥) → None ≡ place_of o xs
+place_none o xs at b r f =
+    sym (cond-false (is_in o xs) (Some (below o xs)) None (is_in_none o xs r (subst (λ k. k < length xs → get_or xs k 0 ≡ o → ⊥) b f)))
 
 -- the names of objects, as they lie and in the model
-pub names-in : (xs : List Object) → names (objectsOf xs) ≡ namesIn xs
-names-in [] = refl
-names-in (x ∷ xs) = ap (λ r. x .name .0 ∷ r) (names-in xs)
+pub names_in_place : (xs : List Object) → names (objects_of xs) ≡ names_in xs
+names_in_place [] = refl
+names_in_place (x ∷ xs) = ap (λ r. x.name.0 ∷ r) (names_in_place xs)
 
-pub is-some-place : (o : ℕ) (xs : List ℕ) → isSome (placeOf o xs) ≡ isIn o xs
-is-some-place o xs = ⊎-elim
-    (λ t. ap isSome (cond-true (isIn o xs) (Some (below o xs)) None t) ∙ sym t)
-    (λ f. ap isSome (cond-false (isIn o xs) (Some (below o xs)) None f) ∙ sym f)
-    (cases-bool (isIn o xs))
+pub is_some_place : (o : ℕ) (xs : List ℕ) → is_some (place_of o xs) ≡ is_in o xs
+is_some_place o xs = ⊎_elim
+    (λ t. ap is_some (cond-true (is_in o xs) (Some (below o xs)) None t) ∙ sym t)
+    (λ f. ap is_some (cond-false (is_in o xs) (Some (below o xs)) None f) ∙ sym f)
+    (cases_Bool (is_in o xs))
 
 -- a name that is there is not put in again
-pub added-in : (o : ℕ) (xs : List ℕ) → rising xs ≡ true → isIn o xs ≡ true → added o xs ≡ xs
-added-in o [] r e = absurd (both-ways false refl e)
-added-in o (x ∷ xs) r e =
-    let p = and-parts (above x xs) (rising xs) r in
-    ⊎-elim
+pub added_in : (o : ℕ) (xs : List ℕ) → rising xs ≡ true → is_in o xs ≡ true → added o xs ≡ xs
+added_in o [] r e = absurd (both_ways false refl e)
+added_in o (x ∷ xs) r e =
+    let p = and_parts (above x xs) (rising xs) r in
+    ⊎_elim
     (λ h. cond-true (ltb x o) (x ∷ added o xs) (cond (eqb x o) (x ∷ xs) (o ∷ x ∷ xs)) (lt-ltb x o h)
-    ∙ ap (λ t. x ∷ t) (added-in o xs (p .1) (⊎-elim (λ t. absurd (let q = eqb-true x o t in omega arith)) (λ t. t) (or-cases (eqb x o) (isIn o xs) e))))
+    ∙ ap (λ t. x ∷ t) (added_in o xs p.1 (⊎_elim (λ t. absurd (let q = eqb-true x o t in omega arith)) (λ t. t) (or_cases (eqb x o) (is_in o xs) e))))
     (λ h. cond-false (ltb x o) (x ∷ added o xs) (cond (eqb x o) (x ∷ xs) (o ∷ x ∷ xs)) (le-ltb x o h)
-    ∙ cond-true (eqb x o) (x ∷ xs) (o ∷ x ∷ xs) (⊎-elim (λ t. t) (λ t. absurd (both-ways (isIn o xs) (above-out o x xs (p .0) h) t)) (or-cases (eqb x o) (isIn o xs) e)))
-    (cases-lt x o)
+    ∙ cond-true (eqb x o) (x ∷ xs) (o ∷ x ∷ xs) (⊎_elim (λ t. t) (λ t. absurd (both_ways (is_in o xs) (above_out o x xs p.0 h) t)) (or_cases (eqb x o) (is_in o xs) e)))
+    (cases_lt x o)
 
 -- and one that is not goes to its place
-pub added-out : (o : ℕ) (xs : List ℕ) → isIn o xs ≡ false → inserted xs (below o xs) o ≡ added o xs
-added-out o [] f = refl
-added-out o (x ∷ xs) f =
-    let p = or-parts (eqb x o) (isIn o xs) f in
-    ⊎-elim
-    (λ h. ap (λ k. inserted (x ∷ xs) k o) (cond-true (ltb x o) (suc (below o xs)) 0 (lt-ltb x o h))
-    ∙ ap (λ t. x ∷ t) (added-out o xs (p .1))
+pub added_out : (o : ℕ) (xs : List ℕ) → is_in o xs ≡ false → insert xs (below o xs) o ≡ added o xs
+added_out o [] f = refl
+added_out o (x ∷ xs) f =
+    let p = or_parts (eqb x o) (is_in o xs) f in
+    ⊎_elim
+    (λ h. ap (λ k. insert (x ∷ xs) k o) (cond-true (ltb x o) (suc (below o xs)) 0 (lt-ltb x o h))
+    ∙ ap (λ t. x ∷ t) (added_out o xs p.1)
     ∙ sym (cond-true (ltb x o) (x ∷ added o xs) (cond (eqb x o) (x ∷ xs) (o ∷ x ∷ xs)) (lt-ltb x o h)))
-    (λ h. ap (λ k. inserted (x ∷ xs) k o) (cond-false (ltb x o) (suc (below o xs)) 0 (le-ltb x o h))
-    ∙ sym (cond-false (ltb x o) (x ∷ added o xs) (cond (eqb x o) (x ∷ xs) (o ∷ x ∷ xs)) (le-ltb x o h) ∙ cond-false (eqb x o) (x ∷ xs) (o ∷ x ∷ xs) (p .0)))
-    (cases-lt x o)
+    (λ h. ap (λ k. insert (x ∷ xs) k o) (cond-false (ltb x o) (suc (below o xs)) 0 (le-ltb x o h))
+    ∙ sym (cond-false (ltb x o) (x ∷ added o xs) (cond (eqb x o) (x ∷ xs) (o ∷ x ∷ xs)) (le-ltb x o h) ∙ cond-false (eqb x o) (x ∷ xs) (o ∷ x ∷ xs) p.0))
+    (cases_lt x o)
 
-pub above-less : (y x : ℕ) (xs : List ℕ) → y ≤ x → above x xs ≡ true → above y xs ≡ true
-above-less y x [] h a = refl
-above-less y x (z ∷ xs) h a =
-    let p = and-parts (ltb x z) (above x xs) a in
-    let g = ltb-true x z (p .0) in
-    and-from (ltb y z) (above y xs) (lt-ltb y z (omega arith)) (above-less y x xs h (p .1))
+pub above_less : (y x : ℕ) (xs : List ℕ) → y ≤ x → above x xs ≡ true → above y xs ≡ true
+above_less y x [] h a = refl
+above_less y x (z ∷ xs) h a =
+    let p = and_parts (ltb x z) (above x xs) a in
+    let g = ltb-true x z p.0 in
+    and_from (ltb y z) (above y xs) (lt-ltb y z (omega arith)) (above_less y x xs h p.1)
 
-pub above-added : (o x : ℕ) (xs : List ℕ) → x < o → above x xs ≡ true → above x (added o xs) ≡ true
-above-added o x [] h a = and-from (ltb x o) true (lt-ltb x o h) refl
-above-added o x (y ∷ xs) h a =
-    let p = and-parts (ltb x y) (above x xs) a in
-    cond-both (ltb y o) (y ∷ added o xs) (cond (eqb y o) (y ∷ xs) (o ∷ y ∷ xs)) (λ l. above x l ≡ true)
-    (λ _. and-from (ltb x y) (above x (added o xs)) (p .0) (above-added o x xs h (p .1)))
-    (λ _. cond-both (eqb y o) (y ∷ xs) (o ∷ y ∷ xs) (λ l. above x l ≡ true)
+pub above_added : (o x : ℕ) (xs : List ℕ) → x < o → above x xs ≡ true → above x (added o xs) ≡ true
+above_added o x [] h a = and_from (ltb x o) true (lt-ltb x o h) refl
+above_added o x (y ∷ xs) h a =
+    let p = and_parts (ltb x y) (above x xs) a in
+    cond_both (ltb y o) (y ∷ added o xs) (cond (eqb y o) (y ∷ xs) (o ∷ y ∷ xs)) (λ l. above x l ≡ true)
+    (λ _. and_from (ltb x y) (above x (added o xs)) p.0 (above_added o x xs h p.1))
+    (λ _. cond_both (eqb y o) (y ∷ xs) (o ∷ y ∷ xs) (λ l. above x l ≡ true)
     (λ _. a)
-    (λ _. and-from (ltb x o) (above x (y ∷ xs)) (lt-ltb x o h) a))
+    (λ _. and_from (ltb x o) (above x (y ∷ xs)) (lt-ltb x o h) a))
 
-pub rising-added : (o : ℕ) (xs : List ℕ) → rising xs ≡ true → rising (added o xs) ≡ true
-rising-added o [] r = refl
-rising-added o (x ∷ xs) r =
-    let p = and-parts (above x xs) (rising xs) r in
-    cond-both (ltb x o) (x ∷ added o xs) (cond (eqb x o) (x ∷ xs) (o ∷ x ∷ xs)) (λ l. rising l ≡ true)
-    (λ t. and-from (above x (added o xs)) (rising (added o xs)) (above-added o x xs (ltb-true x o t) (p .0)) (rising-added o xs (p .1)))
-    (λ f. cond-both (eqb x o) (x ∷ xs) (o ∷ x ∷ xs) (λ l. rising l ≡ true)
+pub rising_added : (o : ℕ) (xs : List ℕ) → rising xs ≡ true → rising (added o xs) ≡ true
+rising_added o [] r = refl
+rising_added o (x ∷ xs) r =
+    let p = and_parts (above x xs) (rising xs) r in
+    cond_both (ltb x o) (x ∷ added o xs) (cond (eqb x o) (x ∷ xs) (o ∷ x ∷ xs)) (λ l. rising l ≡ true)
+    (λ t. and_from (above x (added o xs)) (rising (added o xs)) (above_added o x xs (ltb-true x o t) p.0) (rising_added o xs p.1))
+    (λ f. cond_both (eqb x o) (x ∷ xs) (o ∷ x ∷ xs) (λ l. rising l ≡ true)
     (λ _. r)
     (λ g. let ge = ltb-false x o f in
     let ne = eqb-false x o g in
-    let lt : o < x = ⊎-elim (λ e. absurd (ne (sym e))) (λ n. omega arith) (cases-eq o x) in
-    and-from (above o (x ∷ xs)) (rising (x ∷ xs)) (and-from (ltb o x) (above o xs) (lt-ltb o x lt) (above-less o x xs (omega arith) (p .0))) r))
+    let lt : o < x = ⊎_elim (λ e. absurd (ne (sym e))) (λ n. omega arith) (cases_eq o x) in
+    and_from (above o (x ∷ xs)) (rising (x ∷ xs)) (and_from (ltb o x) (above o xs) (lt-ltb o x lt) (above_less o x xs (omega arith) p.0)) r))
 
-pub length-added : (o : ℕ) (xs : List ℕ) → length (added o xs) ≤ length xs + 1
-length-added o [] = omega arith
-length-added o (x ∷ xs) =
-    cond-both (ltb x o) (x ∷ added o xs) (cond (eqb x o) (x ∷ xs) (o ∷ x ∷ xs)) (λ l. length l ≤ length (x ∷ xs) + 1)
-    (λ _. omega (arith, length-added o xs))
-    (λ _. cond-both (eqb x o) (x ∷ xs) (o ∷ x ∷ xs) (λ l. length l ≤ length (x ∷ xs) + 1) (λ _. omega arith) (λ _. omega arith))
+pub length_added : (o : ℕ) (xs : List ℕ) → length (added o xs) ≤ length xs + 1
+length_added o [] = omega arith
+length_added o (x ∷ xs) =
+    cond_both (ltb x o) (x ∷ added o xs) (cond (eqb x o) (x ∷ xs) (o ∷ x ∷ xs)) (λ l. length l ≤ length (x ∷ xs) + 1)
+    (λ _. omega (arith, length_added o xs))
+    (λ _. cond_both (eqb x o) (x ∷ xs) (o ∷ x ∷ xs) (λ l. length l ≤ length (x ∷ xs) + 1) (λ _. omega arith) (λ _. omega arith))
 
 -- what is there stands at its place
-pub getD-below : (o : ℕ) (xs : List ℕ) → rising xs ≡ true → isIn o xs ≡ true → (below o xs < length xs) × (getD xs (below o xs) 0 ≡ o)
-getD-below o [] r e = absurd (both-ways false refl e)
-getD-below o (x ∷ xs) r e =
-    let p = and-parts (above x xs) (rising xs) r in
-    ⊎-elim
+pub get_d_below : (o : ℕ) (xs : List ℕ) → rising xs ≡ true → is_in o xs ≡ true → (below o xs < length xs) × (get_or xs (below o xs) 0 ≡ o)
+get_d_below o [] r e = absurd (both_ways false refl e)
+get_d_below o (x ∷ xs) r e =
+    let p = and_parts (above x xs) (rising xs) r in
+    ⊎_elim
     (λ h. let b : below o (x ∷ xs) ≡ suc (below o xs) = cond-true (ltb x o) (suc (below o xs)) 0 (lt-ltb x o h) in
-    let q = getD-below o xs (p .1) (⊎-elim (λ t. absurd (let q = eqb-true x o t in omega arith)) (λ t. t) (or-cases (eqb x o) (isIn o xs) e)) in
-    (omega (arith, b, q .0), ap (λ k. getD (x ∷ xs) k 0) b ∙ q .1))
+    let q = get_d_below o xs p.1 (⊎_elim (λ t. absurd (let q = eqb-true x o t in omega arith)) (λ t. t) (or_cases (eqb x o) (is_in o xs) e)) in
+    (omega (arith, b, q.0), ap (λ k. get_or (x ∷ xs) k 0) b ∙ q.1))
     (λ h. let b : below o (x ∷ xs) ≡ 0 = cond-false (ltb x o) (suc (below o xs)) 0 (le-ltb x o h) in
-    (omega (arith, b), ap (λ k. getD (x ∷ xs) k 0) b ∙ ⊎-elim (λ t. eqb-true x o t) (λ t. absurd (both-ways (isIn o xs) (above-out o x xs (p .0) h) t)) (or-cases (eqb x o) (isIn o xs) e)))
-    (cases-lt x o)
+    (omega (arith, b), ap (λ k. get_or (x ∷ xs) k 0) b ∙ ⊎_elim (λ t. eqb-true x o t) (λ t. absurd (both_ways (is_in o xs) (above_out o x xs p.0 h) t)) (or_cases (eqb x o) (is_in o xs) e)))
+    (cases_lt x o)
 
-some-none : (at : ℕ) → _≡_ {A = Option ℕ} (Some at) None → ⊥
-some-none at e = let z : _≡_ {A = ℕ} 0 1 = cc in omega arith
+some_none : (at : ℕ) → ◌≡◌ {A = Option ℕ} (Some at) None → ⊥
+some_none at e = let z : ◌≡◌ {A = ℕ} 0 1 = cc in omega arith
 
-some-same : (i k : ℕ) → _≡_ {A = Option ℕ} (Some i) (Some k) → i ≡ k
-some-same i k e = cc
+some_same : (i k : ℕ) → ◌≡◌ {A = Option ℕ} (Some i) (Some k) → i ≡ k
+some_same i k e = cc
 
-pub place-facts : (o : ℕ) (xs : List ℕ) (at : ℕ) → rising xs ≡ true → Some at ≡ placeOf o xs → (isIn o xs ≡ true) × (at < length xs) × (getD xs at 0 ≡ o)
-place-facts o xs at r e = ⊎-elim
-    (λ t. let b : at ≡ below o xs = some-same at (below o xs) (e ∙ cond-true (isIn o xs) (Some (below o xs)) None t) in
-    let q = getD-below o xs r t in
-    (t, omega (arith, b, q .0), ap (λ k. getD xs k 0) b ∙ q .1))
-    (λ f. absurd (some-none at (e ∙ cond-false (isIn o xs) (Some (below o xs)) None f)))
-    (cases-bool (isIn o xs))
+pub place_facts : (o : ℕ) (xs : List ℕ) (at : ℕ) → rising xs ≡ true → Some at ≡ place_of o xs → (is_in o xs ≡ true) × (at < length xs) × (get_or xs at 0 ≡ o)
+place_facts o xs at r e = ⊎_elim
+    (λ t. let b : at ≡ below o xs = some_same at (below o xs) (e ∙ cond-true (is_in o xs) (Some (below o xs)) None t) in
+    let q = get_d_below o xs r t in
+    (t, omega (arith, b, q.0), ap (λ k. get_or xs k 0) b ∙ q.1))
+    (λ f. absurd (some_none at (e ∙ cond-false (is_in o xs) (Some (below o xs)) None f)))
+    (cases_Bool (is_in o xs))
 
-pub held-place : (b : Bool) (p : Option ℕ) (at : ℕ) → Some at ≡ cond b p None → (b ≡ true) × (Some at ≡ p)
-held-place true p at e = (refl, e)
-held-place false p at e = absurd (some-none at e)
+pub held_place : (b : Bool) (p : Option ℕ) (at : ℕ) → Some at ≡ cond b p None → (b ≡ true) × (Some at ≡ p)
+held_place true p at e = (refl, e)
+held_place false p at e = absurd (some_none at e)
 
 module _ (p : ℕ) where
-  none-in : (xs : List ℕ) → ((k : ℕ) → k < length xs → getD xs k 0 ≡ p → ⊥) → isIn p xs ≡ false
-  none-in [] f = refl
-  none-in (x ∷ xs) f = or-from (eqb x p) (isIn p xs) (ne-eqb x p (f 0 (omega arith))) (none-in xs (λ k h e. f (suc k) (omega arith) e))
+  none_in : (xs : List ℕ) → ((k : ℕ) → k < length xs → get_or xs k 0 ≡ p → ⊥) → is_in p xs ≡ false
+  none_in [] f = refl
+  none_in (x ∷ xs) f = or_from (eqb x p) (is_in p xs) (ne_eqb x p (f 0 (omega arith))) (none_in xs (λ k h e. f (suc k) (omega arith) e))
 
-  first-removed : (xs : List ℕ) (r : ℕ) → r < length xs → ((k : ℕ) → k < r → getD xs k 0 ≡ p → ⊥) → getD xs r 0 ≡ p → withoutFirst p xs ≡ removed xs r
-  first-removed [] r h f e = absurd (omega arith)
-  first-removed (x ∷ xs) zero h f e = cond-true (eqb x p) xs (x ∷ withoutFirst p xs) (eq-eqb x p e)
-  first-removed (x ∷ xs) (suc r) h f e =
-      cond-false (eqb x p) xs (x ∷ withoutFirst p xs) (ne-eqb x p (f 0 (omega arith)))
-      ∙ ap (λ t. x ∷ t) (first-removed xs r (omega arith) (λ k l g. f (suc k) (omega arith) g) e)
+  first_removed : (xs : List ℕ) (r : ℕ) → r < length xs → ((k : ℕ) → k < r → get_or xs k 0 ≡ p → ⊥) → get_or xs r 0 ≡ p → without_first p xs ≡ remove xs r
+  first_removed [] r h f e = absurd (omega arith)
+  first_removed (x ∷ xs) zero h f e = cond-true (eqb x p) xs (x ∷ without_first p xs) (eq-eqb x p e)
+  first_removed (x ∷ xs) (suc r) h f e =
+      cond-false (eqb x p) xs (x ∷ without_first p xs) (ne_eqb x p (f 0 (omega arith)))
+      ∙ ap (λ t. x ∷ t) (first_removed xs r (omega arith) (λ k l g. f (suc k) (omega arith) g) e)
 
-  module _ (ns : List Name) (r : ℕ) (before : (k : ℕ) → k < r → getD ns k (name 0) .0 ≡ p → ⊥) where
-    at-number : (k : ℕ) → k < length ns → getD (numbers ns) k 0 ≡ getD ns k (name 0) .0
-    at-number k h = getD-map number ns k (name 0) 0 h
+  module _ (ns : List Name) (r : ℕ) (before : (k : ℕ) → k < r → (get_or ns k (name 0)).0 ≡ p → ⊥) where
+    at_number : (k : ℕ) → k < length ns → get_or (numbers ns) k 0 ≡ (get_or ns k (name 0)).0
+    at_number k h = get_or-map number ns k (name 0) 0 h
 
     -- what the search for the first of a name says of the list
-    pub first-none : length ns ≤ r → isIn p (numbers ns) ≡ false
-    first-none h = none-in (numbers ns) (λ k l e. before k (omega (arith, length-map ns number)) (sym (at-number k (omega (arith, length-map ns number))) ∙ e))
+    pub first_none : length ns ≤ r → is_in p (numbers ns) ≡ false
+    first_none h = none_in (numbers ns) (λ k l e. before k (omega (arith, length-map ns number)) (sym (at_number k (omega (arith, length-map ns number))) ∙ e))
 
-    pub first-there : r < length ns → getD ns r (name 0) .0 ≡ p → (isIn p (numbers ns) ≡ true) × (withoutFirst p (numbers ns) ≡ removed (numbers ns) r)
-    first-there h e =
+    pub first_there : r < length ns → (get_or ns r (name 0)).0 ≡ p → (is_in p (numbers ns) ≡ true) × (without_first p (numbers ns) ≡ remove (numbers ns) r)
+    first_there h e =
         let l : r < length (numbers ns) = omega (arith, length-map ns number) in (
-          isIn-at p (numbers ns) r l (at-number r h ∙ e),
-          first-removed (numbers ns) r l (λ k g q. before k g (sym (at-number k (omega arith)) ∙ q)) (at-number r h ∙ e),
+          is_in_at p (numbers ns) r l (at_number r h ∙ e),
+          first_removed (numbers ns) r l (λ k g q. before k g (sym (at_number k (omega arith)) ∙ q)) (at_number r h ∙ e),
         )
 
-pub without-out : (o : ℕ) (xs : List ℕ) → isIn o xs ≡ false → without o xs ≡ xs
-without-out o [] f = refl
-without-out o (x ∷ xs) f =
-    let p = or-parts (eqb x o) (isIn o xs) f in
-    cond-false (eqb x o) (without o xs) (x ∷ without o xs) (p .0) ∙ ap (λ t. x ∷ t) (without-out o xs (p .1))
+pub without_out : (o : ℕ) (xs : List ℕ) → is_in o xs ≡ false → without o xs ≡ xs
+without_out o [] f = refl
+without_out o (x ∷ xs) f =
+    let p = or_parts (eqb x o) (is_in o xs) f in
+    cond-false (eqb x o) (without o xs) (x ∷ without o xs) p.0 ∙ ap (λ t. x ∷ t) (without_out o xs p.1)
 
-pub removed-without : (o : ℕ) (xs : List ℕ) (at : ℕ) → rising xs ≡ true → at < length xs → getD xs at 0 ≡ o → removed xs at ≡ without o xs
-removed-without o [] at r h e = absurd (omega arith)
-removed-without o (x ∷ xs) zero r h e =
-    let p = and-parts (above x xs) (rising xs) r in
-    sym (cond-true (eqb x o) (without o xs) (x ∷ without o xs) (eq-eqb x o e) ∙ without-out o xs (above-out o x xs (p .0) (omega arith)))
-removed-without o (x ∷ xs) (suc at) r h e =
-    let p = and-parts (above x xs) (rising xs) r in
-    let a = above-at x xs at (p .0) (omega arith) in
-    ap (λ t. x ∷ t) (removed-without o xs at (p .1) (omega arith) e) ∙ sym (cond-false (eqb x o) (without o xs) (x ∷ without o xs) (ne-eqb x o (λ q. omega arith)))
+pub removed_without : (o : ℕ) (xs : List ℕ) (at : ℕ) → rising xs ≡ true → at < length xs → get_or xs at 0 ≡ o → remove xs at ≡ without o xs
+removed_without o [] at r h e = absurd (omega arith)
+removed_without o (x ∷ xs) zero r h e =
+    let p = and_parts (above x xs) (rising xs) r in
+    sym (cond-true (eqb x o) (without o xs) (x ∷ without o xs) (eq-eqb x o e) ∙ without_out o xs (above_out o x xs p.0 (omega arith)))
+removed_without o (x ∷ xs) (suc at) r h e =
+    let p = and_parts (above x xs) (rising xs) r in
+    let a = above_at x xs at p.0 (omega arith) in
+    ap (λ t. x ∷ t) (removed_without o xs at p.1 (omega arith) e) ∙ sym (cond-false (eqb x o) (without o xs) (x ∷ without o xs) (ne_eqb x o (λ q. omega arith)))
 
-above-without : (o x : ℕ) (xs : List ℕ) → above x xs ≡ true → above x (without o xs) ≡ true
-above-without o x [] a = refl
-above-without o x (y ∷ xs) a =
-    let p = and-parts (ltb x y) (above x xs) a in
-    cond-both (eqb y o) (without o xs) (y ∷ without o xs) (λ l. above x l ≡ true)
-    (λ _. above-without o x xs (p .1))
-    (λ _. and-from (ltb x y) (above x (without o xs)) (p .0) (above-without o x xs (p .1)))
+above_without : (o x : ℕ) (xs : List ℕ) → above x xs ≡ true → above x (without o xs) ≡ true
+above_without o x [] a = refl
+above_without o x (y ∷ xs) a =
+    let p = and_parts (ltb x y) (above x xs) a in
+    cond_both (eqb y o) (without o xs) (y ∷ without o xs) (λ l. above x l ≡ true)
+    (λ _. above_without o x xs p.1)
+    (λ _. and_from (ltb x y) (above x (without o xs)) p.0 (above_without o x xs p.1))
 
-pub rising-without : (o : ℕ) (xs : List ℕ) → rising xs ≡ true → rising (without o xs) ≡ true
-rising-without o [] r = refl
-rising-without o (x ∷ xs) r =
-    let p = and-parts (above x xs) (rising xs) r in
-    cond-both (eqb x o) (without o xs) (x ∷ without o xs) (λ l. rising l ≡ true)
-    (λ _. rising-without o xs (p .1))
-    (λ _. and-from (above x (without o xs)) (rising (without o xs)) (above-without o x xs (p .0)) (rising-without o xs (p .1)))
+pub rising_without : (o : ℕ) (xs : List ℕ) → rising xs ≡ true → rising (without o xs) ≡ true
+rising_without o [] r = refl
+rising_without o (x ∷ xs) r =
+    let p = and_parts (above x xs) (rising xs) r in
+    cond_both (eqb x o) (without o xs) (x ∷ without o xs) (λ l. rising l ≡ true)
+    (λ _. rising_without o xs p.1)
+    (λ _. and_from (above x (without o xs)) (rising (without o xs)) (above_without o x xs p.0) (rising_without o xs p.1))
 
-pub place-missing : (o : ℕ) (xs : List ℕ) → None ≡ placeOf o xs → isIn o xs ≡ false
-place-missing o xs e = ⊎-elim
-    (λ t. absurd (some-none (below o xs) (sym (e ∙ cond-true (isIn o xs) (Some (below o xs)) None t))))
+pub place_missing : (o : ℕ) (xs : List ℕ) → None ≡ place_of o xs → is_in o xs ≡ false
+place_missing o xs e = ⊎_elim
+    (λ t. absurd (some_none (below o xs) (sym (e ∙ cond-true (is_in o xs) (Some (below o xs)) None t))))
     (λ f. f)
-    (cases-bool (isIn o xs))
+    (cases_Bool (is_in o xs))

@@ -1,19 +1,14 @@
 -- Marks on objects, by places.
-use mathlib.Core.Bool.{Bool, true, false, cond, _&&_, _||_}
-use mathlib.Core.List.{List, [], _∷_, _++_, map}
-use Prim.Native.Nat.{ℕ, zero, suc, _+_, _<_}
-use lib.Dec.{eqb}
-use lib.ListN.{length, getD}
-use Rattle·tables·specs.declared.object.Object.{Object}
-use Rattle·std.specs.Orderings.{Decides}
-use Rattle·tables·specs.Met.{Met}
-use Rattle·tables·specs.Shown.{objectOf, objectsOf, namesIn}
+use Rattle.std.specs.Prelude.{ℕ, zero, suc, ◌+◌, ◌<◌, Bool, true, false, cond, ◌&&◌, ◌||◌, List, [], ◌∷◌, ◌++◌, map, length, Decides, ◌==◌, slice_index, slice_index_or}
+use Rattle.tables.specs.declared.object.Object.{Object}
+use Rattle.tables.specs.Met.{Met}
+use Rattle.tables.specs.Shown.{object_of, objects_of, names_in}
 
-abbrev pub fieldsIn : Object → List ℕ
-fieldsIn x = objectOf x .fields
+abbrev pub fields_in : Object → List ℕ
+fields_in x = (object_of x).fields
 
-abbrev pub fieldLists : List Object → List (List ℕ)
-fieldLists xs = map fieldsIn xs
+abbrev pub field_lists : List Object → List (List ℕ)
+field_lists xs = map fields_in xs
 
 unfoldable pub count : List Bool → ℕ
 count [] = 0
@@ -23,15 +18,15 @@ count (m ∷ ms) = cond m 1 0 + count ms
 unfoldable pub noted : ℕ → List ℕ → List Bool → List Bool
 noted p [] ms = ms
 noted p (n ∷ ns) [] = []
-noted p (n ∷ ns) (m ∷ ms) = (m || eqb n p) ∷ noted p ns ms
+noted p (n ∷ ns) (m ∷ ms) = (m || n == p) ∷ noted p ns ms
 
-unfoldable pub notedAll : List ℕ → List ℕ → List Bool → List Bool
-notedAll [] ns ms = ms
-notedAll (p ∷ ps) ns ms = notedAll ps ns (noted p ns ms)
+unfoldable pub noted_all : List ℕ → List ℕ → List Bool → List Bool
+noted_all [] ns ms = ms
+noted_all (p ∷ ps) ns ms = noted_all ps ns (noted p ns ms)
 
 -- what the object at place i adds, if it is marked
 abbrev pub grown : List ℕ → List (List ℕ) → ℕ → List Bool → List Bool
-grown ns fss i ms = cond (getD ms i false) (notedAll (getD fss i []) ns ms) ms
+grown ns fss i ms = cond (slice_index_or ms i false) (noted_all (slice_index_or fss i []) ns ms) ms
 
 -- one pass, from place i on, over n objects
 unfoldable pub passed : List ℕ → List (List ℕ) → ℕ → ℕ → List Bool → List Bool
@@ -39,11 +34,11 @@ passed ns fss i zero ms = ms
 passed ns fss i (suc n) ms = passed ns fss (i + 1) n (grown ns fss i ms)
 
 -- those with a mark
-abbrev pub keptBy : {X : Type 0} → List Bool → List X → List X
-keptBy [] xs = []
-keptBy (m ∷ ms) [] = []
-keptBy (m ∷ ms) (x ∷ xs) = cond m (x ∷ keptBy ms xs) (keptBy ms xs)
+abbrev pub kept_by : {X : Type 0} → List Bool → List X → List X
+kept_by [] xs = []
+kept_by (m ∷ ms) [] = []
+kept_by (m ∷ ms) (x ∷ xs) = cond m (x ∷ kept_by ms xs) (kept_by ms xs)
 
 -- the marks are on exactly the objects that are met
 abbrev pub Marked : List Object → List ℕ → List Bool → Type 0
-Marked xs from ms = (k : ℕ) → k < length xs → Decides (getD ms k false) (Met (objectsOf xs) from (getD (namesIn xs) k 0))
+Marked xs from ms = (k : ℕ) → k < length xs → Decides (slice_index_or ms k false) (Met (objects_of xs) from (slice_index (names_in xs) k))

@@ -1,14 +1,13 @@
-ghost use mathlib.Core.Path.{_≡_};
-ghost use Prim.Native.Nat.{_≤_};
-ghost use lib.ListN.{length, take};
-ghost use Rattle·tables·specs.Marks.{keptBy};
+ghost use Rattle.std.specs.Prelude.{◌≡◌, ◌≤◌, length, take};
+ghost use Rattle.tables.specs.Marks.{kept_by};
+
 use crate::object::Object;
 
 // Moves the objects with a mark to the front, in their order; says how many there are.
 pub fn close_up(objects: &mut [Object], marks: &[bool]) -> usize
-    requires { ⌜ length (now objects) ≤ length (now marks) ⌝ }
-    ensures within { λ r. ⌜ r ≤ length (now (objects .entry)) ⌝ }
-    ensures front { λ r. ⌜ take r (now (objects .exit)) ≡ keptBy (now (marks .entry)) (now (objects .entry)) ⌝ }
+    requires { length objects.old ≤ length marks.now }
+    ensures within { result ≤ length objects.old }
+    ensures front { take result objects.new ≡ kept_by marks.now objects.old }
 {
     let mut end = 0;
     for i in 0..objects.len() {

@@ -1,16 +1,15 @@
-ghost use mathlib.Core.Path.{_≡_};
-ghost use mathlib.Core.List.{_++_, _∷_, []};
-ghost use Prim.Native.Nat.{_<_};
-ghost use Rattle·std.specs.Holes.{removed};
-ghost use Rattle·tables·specs.Shown.{objectOf, numbers, fieldNames};
-ghost use Rattle·tables·specs.Model.{bare, withFields};
+ghost use Rattle.std.specs.Prelude.{◌≡◌, ◌<◌, [], ◌∷◌, ◌++◌};
+ghost use Rattle.std.specs.List.{remove};
+ghost use Rattle.tables.specs.Shown.{object_of, numbers, field_names};
+ghost use Rattle.tables.specs.Model.{bare, with_fields};
+
 use crate::object::Object;
 use wire::Name;
 
 impl Object {
     // An object without fields.
     pub fn new(name: Name) -> Object
-        ensures { λ r. ⌜ objectOf r ≡ bare (name .0) ⌝ }
+        ensures { object_of result ≡ bare name.0 }
     {
         Object {
             name,
@@ -20,29 +19,29 @@ impl Object {
     }
 
     pub fn name(&self) -> Name
-        ensures { λ r. ⌜ r .0 ≡ objectOf (now (self .entry)) .name ⌝ }
+        ensures { result.0 ≡ (object_of self.now).name }
     {
         self.name
     }
 
     // How many fields there are.
     pub fn count(&self) -> usize
-        ensures { λ r. ⌜ r ≡ now (self .entry) .count ⌝ }
+        ensures { result ≡ self.now.count }
     {
         self.count as usize
     }
 
     // The fields, the oldest first.
     pub fn fields(&self) -> &[Name]
-        ensures { λ r. ⌜ numbers (now r) ≡ objectOf (now (self .entry)) .fields ⌝ }
+        ensures { numbers result.now ≡ (object_of self.now).fields }
     {
         &self.slots[0..self.count as usize]
     }
 
     // The object with one more field at the end.
     pub fn linked(self, p: Name) -> Object
-        requires { ⌜ self .count < 8 ⌝ }
-        ensures { λ r. ⌜ objectOf r ≡ withFields (objectOf self) (objectOf self .fields ++ p .0 ∷ []) ⌝ }
+        requires { self.count < 8 }
+        ensures { object_of result ≡ with_fields (object_of self) ((object_of self).fields ++ p.0 ∷ []) }
     {
         let mut slots = self.slots;
         slots[self.count as usize] = p;
@@ -55,8 +54,8 @@ impl Object {
 
     // The object without the field at a place; those behind it close up.
     pub fn unlinked(self, at: usize) -> Object
-        requires { ⌜ at < self .count ⌝ }
-        ensures { λ r. ⌜ objectOf r ≡ withFields (objectOf self) (removed (objectOf self .fields) at) ⌝ }
+        requires { at < self.count }
+        ensures { object_of result ≡ with_fields (object_of self) (remove (object_of self).fields at) }
     {
         let count = self.count as usize;
         let mut slots = self.slots;

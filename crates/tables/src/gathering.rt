@@ -1,14 +1,10 @@
-ghost use mathlib.Core.Path.{_≡_};
-ghost use mathlib.Core.Bool.{true};
-ghost use Prim.Native.Nat.{_≤_};
-ghost use lib.ListN.{length};
-ghost use Rattle·std.specs.Of.Vec.{vec-items};
-ghost use Rattle·std.specs.Vec.{made};
-ghost use Rattle·tables·specs.Gathered.{wanted, gathered};
-ghost use Rattle·tables·specs.Marks.{keptBy};
-ghost use Rattle·tables·specs.Met.{everywhere};
-ghost use Rattle·tables·specs.Model.{rising};
-ghost use Rattle·tables·specs.Shown.{numbers, objectsOf};
+ghost use Rattle.std.specs.Prelude.{◌≡◌, ◌≤◌, true, length, OnOk};
+ghost use Rattle.tables.specs.Gathered.{wanted, gathered};
+ghost use Rattle.tables.specs.Marks.{kept_by};
+ghost use Rattle.tables.specs.Met.{everywhere};
+ghost use Rattle.tables.specs.Model.{rising};
+ghost use Rattle.tables.specs.Shown.{numbers, objects_of};
+
 use crate::object::Object;
 use crate::place::enter;
 use crate::which::Which;
@@ -17,7 +13,7 @@ use wire::Name;
 
 impl Which {
     fn takes(self, p: Name) -> bool
-        ensures { λ r. ⌜ r ≡ wanted self (p .0) ⌝ }
+        ensures { result ≡ wanted self p.0 }
     {
         match self {
             Which::Of(house) => p.home().0 == house.0,
@@ -28,8 +24,8 @@ impl Which {
 
 // Puts those of the names that are looked for into a rising table.
 pub fn gather(out: &mut Vec<Name>, names: &[Name], which: Which) -> Result<(), AllocError>
-    requires { ⌜ rising (numbers (vec-items (now out))) ≡ true ⌝ }
-    ensures { λ r. ⌜ made r (λ _. numbers (vec-items (now (out .exit))) ≡ gathered which (numbers (now (names .entry))) (numbers (vec-items (now (out .entry))))) ⌝ }
+    requires { rising (numbers out.old.items) ≡ true }
+    ensures { OnOk result (numbers out.new.items ≡ gathered which (numbers names.now) (numbers out.old.items)) }
 {
     for p in names {
         if which.takes(*p) {
@@ -46,9 +42,9 @@ pub fn gather_fields(
     marks: &[bool],
     which: Which,
 ) -> Result<(), AllocError>
-    requires ordered { ⌜ rising (numbers (vec-items (now out))) ≡ true ⌝ }
-    requires room { ⌜ length (now objects) ≤ length (now marks) ⌝ }
-    ensures { λ r. ⌜ made r (λ _. numbers (vec-items (now (out .exit))) ≡ gathered which (everywhere (keptBy (now (marks .entry)) (objectsOf (now (objects .entry))))) (numbers (vec-items (now (out .entry))))) ⌝ }
+    requires ordered { rising (numbers out.old.items) ≡ true }
+    requires room { length objects.now ≤ length marks.now }
+    ensures { OnOk result (numbers out.new.items ≡ gathered which (everywhere (kept_by marks.now (objects_of objects.now))) (numbers out.old.items)) }
 {
     for i in 0..objects.len() {
         if marks[i] {

@@ -8,14 +8,8 @@ mod place;
 mod which;
 
 pub use closing::close_up;
-pub use gathering::gather;
-pub use gathering::gather_fields;
+pub use gathering::{gather, gather_fields};
 pub use marking::mark;
 pub use object::Object;
-pub use place::NameNamed;
-pub use place::Named;
-pub use place::ObjectNamed;
-pub use place::enter;
-pub use place::find;
-pub use place::first;
+pub use place::{Named, enter, find, first};
 pub use which::Which;

@@ -1,23 +1,18 @@
-ghost use mathlib.Core.Path.{_≡_};
-ghost use mathlib.Core.Bool.{true, false};
-ghost use mathlib.Core.List.{_++_};
-ghost use Prim.Native.Nat.{ℕ, _<_, _≤_};
-ghost use lib.Dec.{ltb};
-ghost use lib.ListN.{length, getD};
-ghost use Rattle·tables·specs.Model.{rising};
-ghost use Rattle·tables·specs.Marks.{count, noted, notedAll, grown, passed, fieldLists, Marked};
-ghost use Rattle·tables·specs.Shown.{numbers, namesIn};
+ghost use Rattle.std.specs.Prelude.{◌≡◌, ℕ, ◌<◌, ◌≤◌, true, false, ◌++◌, length, nat_lt, slice_index_or};
+ghost use Rattle.tables.specs.Model.{rising};
+ghost use Rattle.tables.specs.Marks.{count, noted, noted_all, grown, passed, field_lists, Marked};
+ghost use Rattle.tables.specs.Shown.{numbers, names_in};
+
 use crate::object::Object;
-use crate::place::ObjectNamed;
 use crate::place::find;
 use wire::Name;
 
 // Marks the object named `p`; says whether it had no mark.
 fn note(objects: &[Object], p: Name, marks: &mut [bool]) -> bool
-    requires ordered { ⌜ rising (namesIn (now objects)) ≡ true ⌝ }
-    requires room { ⌜ length (now objects) ≤ length (now marks) ⌝ }
-    ensures after { λ _. ⌜ now (marks .exit) ≡ noted (p .0) (namesIn (now (objects .entry))) (now (marks .entry)) ⌝ }
-    ensures added { λ r. ⌜ r ≡ ltb (count (now (marks .entry))) (count (now (marks .exit))) ⌝ }
+    requires ordered { rising (names_in objects.now) ≡ true }
+    requires room { length objects.now ≤ length marks.old }
+    ensures after { marks.new ≡ noted p.0 (names_in objects.now) marks.old }
+    ensures added { result ≡ nat_lt (count marks.old) (count marks.new) }
 {
     let Some(at) = find(objects, p) else {
         return false;
@@ -31,10 +26,10 @@ fn note(objects: &[Object], p: Name, marks: &mut [bool]) -> bool
 
 // Marks the objects that are named; says whether one had no mark.
 fn spread(objects: &[Object], names: &[Name], marks: &mut [bool]) -> bool
-    requires ordered { ⌜ rising (namesIn (now objects)) ≡ true ⌝ }
-    requires room { ⌜ length (now objects) ≤ length (now marks) ⌝ }
-    ensures after { λ _. ⌜ now (marks .exit) ≡ notedAll (numbers (now (names .entry))) (namesIn (now (objects .entry))) (now (marks .entry)) ⌝ }
-    ensures added { λ r. ⌜ r ≡ ltb (count (now (marks .entry))) (count (now (marks .exit))) ⌝ }
+    requires ordered { rising (names_in objects.now) ≡ true }
+    requires room { length objects.now ≤ length marks.old }
+    ensures after { marks.new ≡ noted_all (numbers names.now) (names_in objects.now) marks.old }
+    ensures added { result ≡ nat_lt (count marks.old) (count marks.new) }
 {
     let mut added = false;
     for p in names {
@@ -47,21 +42,21 @@ fn spread(objects: &[Object], names: &[Name], marks: &mut [bool]) -> bool
 
 // Marks what the object at place `i` refers to, if it is marked itself; says whether one had no mark.
 fn grow(objects: &[Object], i: usize, marks: &mut [bool]) -> bool
-    requires ordered { ⌜ rising (namesIn (now objects)) ≡ true ⌝ }
-    requires room { ⌜ length (now objects) ≤ length (now marks) ⌝ }
-    requires within { ⌜ i < length (now objects) ⌝ }
-    ensures after { λ _. ⌜ now (marks .exit) ≡ grown (namesIn (now (objects .entry))) (fieldLists (now (objects .entry))) i (now (marks .entry)) ⌝ }
-    ensures added { λ r. ⌜ r ≡ ltb (count (now (marks .entry))) (count (now (marks .exit))) ⌝ }
+    requires ordered { rising (names_in objects.now) ≡ true }
+    requires room { length objects.now ≤ length marks.old }
+    requires within { i < length objects.now }
+    ensures after { marks.new ≡ grown (names_in objects.now) (field_lists objects.now) i marks.old }
+    ensures added { result ≡ nat_lt (count marks.old) (count marks.new) }
 {
     marks[i] && spread(objects, objects[i].fields(), marks)
 }
 
 // One pass over all objects and fields: what marked objects refer to is marked; says whether one had no mark.
 fn pass(objects: &[Object], marks: &mut [bool]) -> bool
-    requires ordered { ⌜ rising (namesIn (now objects)) ≡ true ⌝ }
-    requires room { ⌜ length (now objects) ≤ length (now marks) ⌝ }
-    ensures after { λ _. ⌜ now (marks .exit) ≡ passed (namesIn (now (objects .entry))) (fieldLists (now (objects .entry))) 0 (length (now (objects .entry))) (now (marks .entry)) ⌝ }
-    ensures added { λ r. ⌜ r ≡ ltb (count (now (marks .entry))) (count (now (marks .exit))) ⌝ }
+    requires ordered { rising (names_in objects.now) ≡ true }
+    requires room { length objects.now ≤ length marks.old }
+    ensures after { marks.new ≡ passed (names_in objects.now) (field_lists objects.now) 0 (length objects.now) marks.old }
+    ensures added { result ≡ nat_lt (count marks.old) (count marks.new) }
 {
     let mut added = false;
     for i in 0..objects.len() {
@@ -74,9 +69,9 @@ fn pass(objects: &[Object], marks: &mut [bool]) -> bool
 
 // Marks the roots and the listed objects.
 fn begin(objects: &[Object], roots: &[Name], listed: &[Name], marks: &mut [bool])
-    requires ordered { ⌜ rising (namesIn (now objects)) ≡ true ⌝ }
-    requires room { ⌜ length (now objects) ≤ length (now marks) ⌝ }
-    ensures { λ _. ⌜ now (marks .exit) ≡ notedAll (numbers (now (listed .entry))) (namesIn (now (objects .entry))) (notedAll (numbers (now (roots .entry))) (namesIn (now (objects .entry))) (now (marks .entry))) ⌝ }
+    requires ordered { rising (names_in objects.now) ≡ true }
+    requires room { length objects.now ≤ length marks.old }
+    ensures { marks.new ≡ noted_all (numbers listed.now) (names_in objects.now) (noted_all (numbers roots.now) (names_in objects.now) marks.old) }
 {
     spread(objects, roots, marks);
     spread(objects, listed, marks);
@@ -84,10 +79,10 @@ fn begin(objects: &[Object], roots: &[Name], listed: &[Name], marks: &mut [bool]
 
 // Marks exactly the objects that are met from the roots and the listed names, by passes until one adds nothing.
 pub fn mark(objects: &[Object], roots: &[Name], listed: &[Name], marks: &mut [bool])
-    requires ordered { ⌜ rising (namesIn (now objects)) ≡ true ⌝ }
-    requires room { ⌜ length (now objects) ≤ length (now marks) ⌝ }
-    requires clear { ⌜ ((k : ℕ) → getD (now marks) k false ≡ false) ⌝ }
-    ensures { λ _. ⌜ Marked (now (objects .entry)) (numbers (now (roots .entry)) ++ numbers (now (listed .entry))) (now (marks .exit)) ⌝ }
+    requires ordered { rising (names_in objects.now) ≡ true }
+    requires room { length objects.now ≤ length marks.old }
+    requires clear { (k : ℕ) → slice_index_or marks.old k false ≡ false }
+    ensures { Marked objects.now (numbers roots.now ++ numbers listed.now) marks.new }
 {
     begin(objects, roots, listed, marks);
     'passes: loop {

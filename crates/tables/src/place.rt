@@ -1,14 +1,8 @@
-ghost use mathlib.Core.Path.{_≡_};
-ghost use mathlib.Core.Bool.{true, cond};
-ghost use Rattle·std.specs.Of.Vec.{vec-items, vec-len, vec-cap};
-ghost use Rattle·std.specs.Results.{isOk};
-ghost use mathlib.Core.List.{map};
-ghost use Prim.Native.Nat.{ℕ, _<_, _≤_};
-ghost use lib.ListN.{length, getD};
-ghost use Rattle·wire.specs.Names.{name};
-ghost use Rattle·std.specs.Slices.{found};
-ghost use Rattle·tables·specs.Model.{rising, below, placeOf, added};
-ghost use Rattle·tables·specs.Shown.{nameIn, number, numbers};
+ghost use Rattle.std.specs.Prelude.{◌≡◌, ℕ, ◌<◌, ◌≤◌, true, map, length, IfSome, is_ok, if◌then◌else◌, vec_len, vec_capacity, ◌≢◌, slice_index_or};
+ghost use Rattle.wire.specs.Names.{name};
+ghost use Rattle.tables.specs.Model.{rising, below, place_of, added};
+ghost use Rattle.tables.specs.Shown.{name_in, number, numbers};
+
 use crate::object::Object;
 use std::alloc::AllocError;
 use wire::Name;
@@ -18,10 +12,10 @@ pub trait Named {
     ghost called: { Self → ℕ };
 
     fn its_name(&self) -> Name
-        ensures { λ r. ⌜ r .0 ≡ called (now (self .entry)) ⌝ };
+        ensures { result.0 ≡ called self.now };
 }
 
-pub impl Named for Name as NameNamed {
+impl Named for Name {
     ghost called = { number };
 
     fn its_name(&self) -> Name {
@@ -29,8 +23,8 @@ pub impl Named for Name as NameNamed {
     }
 }
 
-pub impl Named for Object as ObjectNamed {
-    ghost called = { nameIn };
+impl Named for Object {
+    ghost called = { name_in };
 
     fn its_name(&self) -> Name {
         self.name
@@ -39,8 +33,8 @@ pub impl Named for Object as ObjectNamed {
 
 // How many stand before the place of `o` in a table.
 pub fn place<X: Named>(table: &[X], o: Name) -> usize
-    requires { ⌜ rising (map called (now table)) ≡ true ⌝ }
-    ensures { λ r. ⌜ r ≡ below (o .0) (map called (now (table .entry))) ⌝ }
+    requires { rising (map called table.now) ≡ true }
+    ensures { result ≡ below o.0 (map called table.now) }
 {
     let mut low = 0;
     let mut high = table.len();
@@ -57,9 +51,9 @@ pub fn place<X: Named>(table: &[X], o: Name) -> usize
 
 // The place of `o` in a table, if it is there.
 pub fn find<X: Named>(table: &[X], o: Name) -> Option<usize>
-    requires { ⌜ rising (map called (now table)) ≡ true ⌝ }
-    ensures value { λ r. ⌜ r ≡ placeOf (o .0) (map called (now (table .entry))) ⌝ }
-    ensures within { λ r. ⌜ found r (λ at. at < length (now (table .entry))) ⌝ }
+    requires { rising (map called table.now) ≡ true }
+    ensures value { result ≡ place_of o.0 (map called table.now) }
+    ensures within { IfSome result (λ at. at < length table.now) }
 {
     let at = place(table, o);
     if at < table.len() && table[at].its_name().0 == o.0 {
@@ -71,9 +65,9 @@ pub fn find<X: Named>(table: &[X], o: Name) -> Option<usize>
 
 // The place of the first `p`, or the length where there is none.
 pub fn first(names: &[Name], p: Name) -> usize
-    ensures within { λ r. ⌜ r ≤ length (now (names .entry)) ⌝ }
-    ensures before { λ r. ⌜ ((k : ℕ) → k < r → getD (now (names .entry)) k (name 0) .0 ≡ p .0 → ⊥) ⌝ }
-    ensures there { λ r. ⌜ (r < length (now (names .entry)) → getD (now (names .entry)) r (name 0) .0 ≡ p .0) ⌝ }
+    ensures within { result ≤ length names.now }
+    ensures before { (k : ℕ) → k < result → (slice_index_or names.now k (name 0)).0 ≢ p.0 }
+    ensures there { result < length names.now → (slice_index_or names.now result (name 0)).0 ≡ p.0 }
 {
     for i in 0..names.len() {
         if names[i].0 == p.0 {
@@ -85,10 +79,10 @@ pub fn first(names: &[Name], p: Name) -> usize
 
 // Puts a name into a rising table, unless it is there.
 pub fn enter(table: &mut Vec<Name>, o: Name) -> Result<(), AllocError>
-    requires { ⌜ rising (numbers (vec-items (now table))) ≡ true ⌝ }
-    ensures items { λ r. ⌜ numbers (vec-items (now (table .exit))) ≡ cond (isOk r) (added (o .0) (numbers (vec-items (now (table .entry))))) (numbers (vec-items (now (table .entry)))) ⌝ }
-    ensures capacity { λ r. ⌜ vec-cap (now (table .entry)) ≤ vec-cap (now (table .exit)) ⌝ }
-    ensures succeeds { λ r. ⌜ (vec-len (now (table .entry)) < vec-cap (now (table .entry)) → isOk r ≡ true) ⌝ }
+    requires { rising (numbers table.old.items) ≡ true }
+    ensures items { numbers table.new.items ≡ (if is_ok result then added o.0 (numbers table.old.items) else numbers table.old.items) }
+    ensures capacity { vec_capacity table.old ≤ vec_capacity table.new }
+    ensures succeeds { vec_len table.old < vec_capacity table.old → is_ok result ≡ true }
 {
     let at = place(table, o);
     if at == table.len() || table[at].0 != o.0 {

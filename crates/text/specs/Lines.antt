@@ -1,22 +1,16 @@
 -- Lines by their words.
-use mathlib.Core.Bool.{Bool, true, false, cond}
-use mathlib.Core.List.{List, [], _∷_}
-use Prim.Native.Nat.{ℕ}
-use lib.Chars.{codes}
-use lib.Dec.{eqb}
-use Rattle·std.specs.shelf.Text.{sameBytes}
-use Rattle·std.specs.declared.option.Option.{Option}
-use Rattle·std.specs.declared.option.Option.the-variants.{Some, None}
-use Rattle·wire.specs.declared.names.House.{House}
-use Rattle·text·specs.declared.calls.Command.{Command}
-use Rattle·wire.specs.declared.call.Call.{Call}
-use Rattle·text·specs.declared.lines.Line.{Line}
-use Rattle·text·specs.declared.lines.Line.the-variants as line
-use Rattle·text·specs.declared.lines.Play.{Play}
-use Rattle·text·specs.declared.lines.Play.the-variants as play
-use Rattle·text·specs.Words.{none}
-use Rattle·text·specs.Numbers.{decimal, capped, houseOf}
-use Rattle·text·specs.Calls.{commandOf, callOf, sole, numberIn}
+use Rattle.std.specs.Prelude.{ℕ, Bool, true, false, cond, List, [], ◌∷◌, Some, None, codes, Option, ◌==◌}
+use Rattle.std.specs.Str.{bytes_eq}
+use Rattle.wire.specs.declared.names.House.{House}
+use Rattle.text.specs.declared.calls.Command.{Command}
+use Rattle.wire.specs.declared.call.Call.{Call}
+use Rattle.text.specs.declared.lines.Line.{Line}
+use Rattle.text.specs.declared.lines.Line.TheVariants as line
+use Rattle.text.specs.declared.lines.Play.{Play}
+use Rattle.text.specs.declared.lines.Play.TheVariants as play
+use Rattle.text.specs.Words.{none}
+use Rattle.text.specs.Numbers.{decimal, capped, house_of}
+use Rattle.text.specs.Calls.{command_of, call_of, sole, number_in}
 
 -- what a line says, with the digits themselves in place of a reference to them
 pub data Said : Type 0 where
@@ -25,80 +19,80 @@ pub data Said : Type 0 where
   got : List ℕ → Said
   malformed : Said
 
-abbrev pub lineSaid : Line → Said
-lineSaid line.Blank = blank
-lineSaid (line.Call c) = call c
-lineSaid (line.Got ds) = got (ds .now)
-lineSaid line.Malformed = malformed
+abbrev pub line_said : Line → Said
+line_said line.Blank = blank
+line_said (line.Call c) = call c
+line_said (line.Got ds) = got ds.now
+line_said line.Malformed = malformed
 
 -- hexadecimal digits, of which there must be some
-abbrev pub gotOf : List ℕ → Said
-gotOf [] = malformed
-gotOf (d ∷ ds) = got (d ∷ ds)
+abbrev pub got_of : List ℕ → Said
+got_of [] = malformed
+got_of (d ∷ ds) = got (d ∷ ds)
 
-abbrev pub callSaid : Option Call → Said
-callSaid None = malformed
-callSaid (Some c) = call c
+abbrev pub call_said : Option Call → Said
+call_said None = malformed
+call_said (Some c) = call c
 
-abbrev pub commandSaid : Option Command → List (List ℕ) → Said
-commandSaid None ws = malformed
-commandSaid (Some c) ws = callSaid (callOf c ws)
+abbrev pub command_said : Option Command → List (List ℕ) → Said
+command_said None ws = malformed
+command_said (Some c) ws = call_said (call_of c ws)
 
-abbrev pub orderOf : List ℕ → List (List ℕ) → Said
-orderOf w ws = cond (sameBytes w (codes "got")) (gotOf (sole ws)) (commandSaid (commandOf w) ws)
+abbrev pub order_of : List ℕ → List (List ℕ) → Said
+order_of w ws = cond (bytes_eq w (codes "got")) (got_of (sole ws)) (command_said (command_of w) ws)
 
 -- a line that begins with # is a comment
 abbrev pub comment : List ℕ → Bool
 comment [] = true
-comment (c ∷ cs) = eqb c 35
+comment (c ∷ cs) = c == 35
 
-abbrev pub lineOf : List (List ℕ) → Said
-lineOf [] = blank
-lineOf (w ∷ ws) = cond (comment w) blank (orderOf w ws)
+abbrev pub line_of : List (List ℕ) → Said
+line_of [] = blank
+line_of (w ∷ ws) = cond (comment w) blank (order_of w ws)
 
 -- what a line of a rehearsal says
 pub data Played : Type 0 where
   blank : Played
-  callAt : House → Call → Played
-  gotAt : House → List ℕ → Played
-  deliverAt : House → ℕ → Played
+  call_at : House → Call → Played
+  got_at : House → List ℕ → Played
+  deliver_at : House → ℕ → Played
   deliver : ℕ → Played
   show : Played
   settle : Played
   malformed : Played
 
-abbrev pub playSaid : Play → Played
-playSaid play.Blank = blank
-playSaid (play.CallAt h c) = callAt h c
-playSaid (play.GotAt h ds) = gotAt h (ds .now)
-playSaid (play.DeliverAt h m) = deliverAt h m
-playSaid (play.Deliver m) = deliver m
-playSaid play.Show = show
-playSaid play.Settle = settle
-playSaid play.Malformed = malformed
+abbrev pub play_said : Play → Played
+play_said play.Blank = blank
+play_said (play.CallAt h c) = call_at h c
+play_said (play.GotAt h ds) = got_at h ds.now
+play_said (play.DeliverAt h m) = deliver_at h m
+play_said (play.Deliver m) = deliver m
+play_said play.Show = show
+play_said play.Settle = settle
+play_said play.Malformed = malformed
 
 abbrev pub delivered : (ℕ → Played) → Option ℕ → Played
 delivered f None = malformed
 delivered f (Some m) = f m
 
-abbrev pub saidAt : House → Said → Played
-saidAt h blank = malformed
-saidAt h (call c) = callAt h c
-saidAt h (got ds) = gotAt h ds
-saidAt h malformed = malformed
+abbrev pub said_at : House → Said → Played
+said_at h blank = malformed
+said_at h (call c) = call_at h c
+said_at h (got ds) = got_at h ds
+said_at h malformed = malformed
 
-abbrev pub atHouse : House → List (List ℕ) → Played
-atHouse h [] = malformed
-atHouse h (w ∷ ws) = cond (sameBytes w (codes "deliver")) (delivered (deliverAt h) (numberIn ws)) (saidAt h (orderOf w ws))
+abbrev pub at_house : House → List (List ℕ) → Played
+at_house h [] = malformed
+at_house h (w ∷ ws) = cond (bytes_eq w (codes "deliver")) (delivered (deliver_at h) (number_in ws)) (said_at h (order_of w ws))
 
-abbrev pub atSome : Option House → List (List ℕ) → Played
-atSome None ws = malformed
-atSome (Some h) ws = atHouse h ws
+abbrev pub at_some : Option House → List (List ℕ) → Played
+at_some None ws = malformed
+at_some (Some h) ws = at_house h ws
 
-abbrev pub playOf : List (List ℕ) → Played
-playOf [] = blank
-playOf (w ∷ ws) =
+abbrev pub play_of : List (List ℕ) → Played
+play_of [] = blank
+play_of (w ∷ ws) =
     cond (comment w) blank
-    (cond (sameBytes w (codes "show")) (cond (none ws) show malformed)
-    (cond (sameBytes w (codes "settle")) (cond (none ws) settle malformed)
-    (cond (sameBytes w (codes "deliver")) (delivered deliver (numberIn ws)) (atSome (houseOf (capped (decimal w))) ws))))
+    (cond (bytes_eq w (codes "show")) (cond (none ws) show malformed)
+    (cond (bytes_eq w (codes "settle")) (cond (none ws) settle malformed)
+    (cond (bytes_eq w (codes "deliver")) (delivered deliver (number_in ws)) (at_some (house_of (capped (decimal w))) ws))))

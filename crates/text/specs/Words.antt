@@ -1,12 +1,9 @@
 -- A text as words.
-use mathlib.Core.Bool.{Bool, true, false, cond, _||_}
-use mathlib.Core.List.{List, [], _∷_, _++_}
-use Prim.Native.Nat.{ℕ, suc}
-use lib.Dec.{eqb}
+use Rattle.std.specs.Prelude.{ℕ, suc, Bool, true, false, cond, ◌||◌, List, [], ◌∷◌, ◌++◌, ◌==◌}
 
 -- a space, a tab or a carriage return
-abbrev pub isSpace : ℕ → Bool
-isSpace c = eqb c 32 || (eqb c 9 || eqb c 13)
+abbrev pub is_space : ℕ → Bool
+is_space c = c == 32 || (c == 9 || c == 13)
 
 -- a word before others; where it is empty there is none at all
 abbrev pub next : List ℕ → List (List ℕ) → List (List ℕ)
@@ -20,7 +17,7 @@ ended (c ∷ cs) ws = (c ∷ cs) ∷ ws
 
 unfoldable pub split : List ℕ → List ℕ → List (List ℕ)
 split begun [] = ended begun []
-split begun (c ∷ cs) = cond (isSpace c) (ended begun (split [] cs)) (split (begun ++ (c ∷ [])) cs)
+split begun (c ∷ cs) = cond (is_space c) (ended begun (split [] cs)) (split (begun ++ (c ∷ [])) cs)
 
 -- the words of a text: what stands between spaces
 abbrev pub words : List ℕ → List (List ℕ)
@@ -33,9 +30,9 @@ none (w ∷ ws) = false
 -- without the spaces that it begins with
 unfoldable pub skipped : List ℕ → List ℕ
 skipped [] = []
-skipped (c ∷ cs) = cond (isSpace c) (skipped cs) (c ∷ cs)
+skipped (c ∷ cs) = cond (is_space c) (skipped cs) (c ∷ cs)
 
 -- how many bytes come before the first space
 unfoldable pub span : List ℕ → ℕ
 span [] = 0
-span (c ∷ cs) = cond (isSpace c) 0 (suc (span cs))
+span (c ∷ cs) = cond (is_space c) 0 (suc (span cs))

@@ -1,17 +1,10 @@
-ghost use mathlib.Core.Path.{_≡_};
-ghost use mathlib.Core.Bool.{cond};
-ghost use Rattle·std.specs.declared.option.Option.the-variants.{Some, None};
-ghost use Rattle·text·specs.Words.{words, none};
-ghost use Rattle·text·specs.Calls.{commandOf, callOf, sole, numberIn, nameIn, houseIn, namesIn, nameAndHouseIn};
-use crate::numbers::decimal_value;
-use crate::numbers::house_value;
-use crate::numbers::name_value;
-use crate::words::first_word;
-use crate::words::is_blank;
-use crate::words::is_word;
-use wire::Call;
-use wire::House;
-use wire::Name;
+ghost use Rattle.std.specs.Prelude.{◌≡◌, if◌then◌else◌, Some, None};
+ghost use Rattle.text.specs.Words.{words, none};
+ghost use Rattle.text.specs.Calls.{command_of, call_of, sole, number_in, name_in, house_in, names_in, name_and_house_in};
+
+use crate::numbers::{decimal_value, house_value, name_value};
+use crate::words::{first_word, is_blank, is_word};
+use wire::{Call, House, Name};
 
 // The first words of calls.
 #[derive(Clone, Copy)]
@@ -30,7 +23,7 @@ pub enum Command {
 }
 
 pub fn read_command(word: &[u8]) -> Option<Command>
-    ensures { λ r. ⌜ r ≡ commandOf (now (word .entry)) ⌝ }
+    ensures { result ≡ command_of word.now }
 {
     if is_word(word, b"make") {
         Some(Command::Make)
@@ -61,32 +54,32 @@ pub fn read_command(word: &[u8]) -> Option<Command>
 
 // The only word of a text; empty where there is none, or more than one.
 pub fn sole_word(text: &[u8]) -> &[u8]
-    ensures { λ r. ⌜ now r ≡ sole (words (now (text .entry))) ⌝ }
+    ensures { result.now ≡ sole (words text.now) }
 {
     let (word, rest) = first_word(text);
     if is_blank(rest) { word } else { &[] }
 }
 
 pub fn sole_number(text: &[u8]) -> Option<u64>
-    ensures { λ r. ⌜ r ≡ numberIn (words (now (text .entry))) ⌝ }
+    ensures { result ≡ number_in (words text.now) }
 {
     decimal_value(sole_word(text))
 }
 
 fn sole_name(text: &[u8]) -> Option<Name>
-    ensures { λ r. ⌜ r ≡ nameIn (words (now (text .entry))) ⌝ }
+    ensures { result ≡ name_in (words text.now) }
 {
     name_value(sole_word(text))
 }
 
 fn sole_house(text: &[u8]) -> Option<House>
-    ensures { λ r. ⌜ r ≡ houseIn (words (now (text .entry))) ⌝ }
+    ensures { result ≡ house_in (words text.now) }
 {
     house_value(sole_word(text))
 }
 
 fn two_names(text: &[u8]) -> Option<(Name, Name)>
-    ensures { λ r. ⌜ r ≡ namesIn (words (now (text .entry))) ⌝ }
+    ensures { result ≡ names_in (words text.now) }
 {
     let (word, rest) = first_word(text);
     let object = name_value(word)?;
@@ -95,7 +88,7 @@ fn two_names(text: &[u8]) -> Option<(Name, Name)>
 }
 
 fn name_and_house(text: &[u8]) -> Option<(Name, House)>
-    ensures { λ r. ⌜ r ≡ nameAndHouseIn (words (now (text .entry))) ⌝ }
+    ensures { result ≡ name_and_house_in (words text.now) }
 {
     let (word, rest) = first_word(text);
     let object = name_value(word)?;
@@ -105,7 +98,7 @@ fn name_and_house(text: &[u8]) -> Option<(Name, House)>
 
 // A call by its command and the text after it.
 pub fn read_call(command: Command, rest: &[u8]) -> Option<Call>
-    ensures { λ r. ⌜ r ≡ callOf command (words (now (rest .entry))) ⌝ }
+    ensures { result ≡ call_of command (words rest.now) }
 {
     match command {
         Command::Make => Some(Call::Make {
@@ -144,7 +137,7 @@ pub fn read_call(command: Command, rest: &[u8]) -> Option<Call>
 
 // A call that nothing follows.
 fn only(rest: &[u8], call: Call) -> Option<Call>
-    ensures { λ r. ⌜ r ≡ cond (none (words (now (rest .entry)))) (Some call) None ⌝ }
+    ensures { result ≡ (if none (words rest.now) then Some call else None) }
 {
     if is_blank(rest) { Some(call) } else { None }
 }

@@ -1,18 +1,12 @@
-ghost use mathlib.Core.Path.{_≡_};
-ghost use mathlib.Core.Bool.{cond};
-ghost use mathlib.Core.List.{_++_};
-ghost use Prim.Native.Nat.{_<_, _/_, _%_};
-ghost use Rattle·std.specs.Of.String.{string-bytes};
-ghost use Rattle·std.specs.Results.{isOk};
-ghost use Rattle·std.specs.Vec.{made};
-ghost use Rattle·text·specs.Hex.{digitOf, Digit, hexOf, itemsOf, charOf, hexText, ReadsBack};
-use std::alloc::AllocError;
-use std::alloc::Global;
+ghost use Rattle.std.specs.Prelude.{◌≡◌, ◌/◌, ◌%◌, ◌<◌, cond, ◌++◌, is_ok, IfOk, string_bytes, OnOk};
+ghost use Rattle.text.specs.Hex.{digit_of, Digit, hex_of, items_of, char_of, hex_text, ReadsBack};
+
+use std::alloc::{AllocError, Global};
 
 // The value of a hexadecimal digit, in either case.
 fn digit_value(c: u8) -> Option<u8>
-    ensures value { λ r. ⌜ r ≡ digitOf c ⌝ }
-    ensures below { λ r. ⌜ Digit r ⌝ }
+    ensures value { result ≡ digit_of c }
+    ensures below { Digit result }
 {
     match c {
         b'0'..=b'9' => Some(c - b'0'),
@@ -24,7 +18,7 @@ fn digit_value(c: u8) -> Option<u8>
 
 // The bytes that hexadecimal digits spell, or none where they are odd in number or not all digits.
 pub fn read_hex(heap: Global, digits: &[u8]) -> Result<Option<Vec<u8>>, AllocError>
-    ensures { λ r. ⌜ made r (λ o. itemsOf o ≡ hexOf (now (digits .entry))) ⌝ }
+    ensures { IfOk result (λ o. items_of o ≡ hex_of digits.now) }
 {
     let mut out = Vec::new(heap);
     let mut rest = digits;
@@ -46,8 +40,8 @@ pub fn read_hex(heap: Global, digits: &[u8]) -> Result<Option<Vec<u8>>, AllocErr
 }
 
 fn digit_char(n: u8) -> char
-    requires { ⌜ n < 16 ⌝ }
-    ensures { λ r. ⌜ r ≡ charOf n ⌝ }
+    requires { n < 16 }
+    ensures { result ≡ char_of n }
 {
     if n < 10 {
         (b'0' + n) as char
@@ -58,8 +52,8 @@ fn digit_char(n: u8) -> char
 
 // Appends each byte as two hexadecimal digits.
 pub fn write_hex(bytes: &[u8], out: &mut String) -> Result<(), AllocError>
-    ensures text { λ r. ⌜ made r (λ _. string-bytes (now (out .exit)) ≡ string-bytes (now (out .entry)) ++ hexText (now (bytes .entry))) ⌝ }
-    ensures read_back { λ _. ⌜ ReadsBack ⌝ }
+    ensures text { OnOk result (string_bytes out.new ≡ string_bytes out.old ++ hex_text bytes.now) }
+    ensures read_back { ReadsBack }
 {
     for b in bytes {
         out.push(digit_char(*b / 16))?;

@@ -6,12 +6,7 @@ mod numbers;
 mod output;
 mod words;
 
-pub use hex::read_hex;
-pub use hex::write_hex;
-pub use lines::Line;
-pub use lines::Play;
-pub use lines::read_line;
-pub use lines::read_play;
+pub use hex::{read_hex, write_hex};
+pub use lines::{Line, Play, read_line, read_play};
 pub use numbers::decimal_value;
-pub use output::chomp;
-pub use output::write_refusal;
+pub use output::{chomp, write_refusal};

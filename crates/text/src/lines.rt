@@ -1,16 +1,11 @@
-ghost use mathlib.Core.Path.{_≡_};
-ghost use Rattle·text·specs.Words.{words};
-ghost use Rattle·text·specs.Lines.{lineSaid, orderOf, lineOf, comment, playSaid, atHouse, playOf};
-use crate::calls::read_call;
-use crate::calls::read_command;
-use crate::calls::sole_number;
-use crate::calls::sole_word;
+ghost use Rattle.std.specs.Prelude.{◌≡◌};
+ghost use Rattle.text.specs.Words.{words};
+ghost use Rattle.text.specs.Lines.{line_said, order_of, line_of, comment, play_said, at_house, play_of};
+
+use crate::calls::{read_call, read_command, sole_number, sole_word};
 use crate::numbers::house_value;
-use crate::words::first_word;
-use crate::words::is_blank;
-use crate::words::is_word;
-use wire::Call;
-use wire::House;
+use crate::words::{first_word, is_blank, is_word};
+use wire::{Call, House};
 
 // A line for one house.
 #[derive(Clone, Copy)]
@@ -41,7 +36,7 @@ pub enum Play<'a> {
 }
 
 fn order<'a>(word: &'a [u8], rest: &'a [u8]) -> Line<'a>
-    ensures { λ r. ⌜ lineSaid r ≡ orderOf (now (word .entry)) (words (now (rest .entry))) ⌝ }
+    ensures { line_said result ≡ order_of word.now (words rest.now) }
 {
     if is_word(word, b"got") {
         let digits = sole_word(rest);
@@ -62,7 +57,7 @@ fn order<'a>(word: &'a [u8], rest: &'a [u8]) -> Line<'a>
 
 // Whether a word begins a comment, or is none.
 fn is_comment(word: &[u8]) -> bool
-    ensures { λ r. ⌜ r ≡ comment (now (word .entry)) ⌝ }
+    ensures { result ≡ comment word.now }
 {
     match word {
         [] | [b'#', ..] => true,
@@ -72,7 +67,7 @@ fn is_comment(word: &[u8]) -> bool
 
 // A line of the program `house`.
 pub fn read_line(text: &[u8]) -> Line<'_>
-    ensures { λ r. ⌜ lineSaid r ≡ lineOf (words (now (text .entry))) ⌝ }
+    ensures { line_said result ≡ line_of (words text.now) }
 {
     let (word, rest) = first_word(text);
     if is_comment(word) {
@@ -83,7 +78,7 @@ pub fn read_line(text: &[u8]) -> Line<'_>
 
 // What is to happen at one house of a rehearsal.
 fn at_house<'a>(house: House, text: &'a [u8]) -> Play<'a>
-    ensures { λ r. ⌜ playSaid r ≡ atHouse house (words (now (text .entry))) ⌝ }
+    ensures { play_said result ≡ at_house house (words text.now) }
 {
     let (word, rest) = first_word(text);
     if is_word(word, b"deliver") {
@@ -101,7 +96,7 @@ fn at_house<'a>(house: House, text: &'a [u8]) -> Play<'a>
 
 // A line of the program `rehearse`.
 pub fn read_play(text: &[u8]) -> Play<'_>
-    ensures { λ r. ⌜ playSaid r ≡ playOf (words (now (text .entry))) ⌝ }
+    ensures { play_said result ≡ play_of (words text.now) }
 {
     let (word, rest) = first_word(text);
     if is_comment(word) {

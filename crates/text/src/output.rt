@@ -1,15 +1,13 @@
-ghost use mathlib.Core.Path.{_≡_};
-ghost use mathlib.Core.List.{_++_};
-ghost use Rattle·std.specs.Of.String.{string-bytes};
-ghost use Rattle·std.specs.Vec.{made};
-ghost use Rattle·text·specs.Output.{refusalLine, chomped};
+ghost use Rattle.std.specs.Prelude.{◌≡◌, ◌++◌, string_bytes, OnOk};
+ghost use Rattle.text.specs.Output.{refusal_line, chomped};
+
 use std::fmt;
 use std::fmt::Write;
 use wire::Refusal;
 
 // The line that says which refusal it was.
 pub fn write_refusal(refusal: Refusal, out: &mut String) -> fmt::Result
-    ensures { λ r. ⌜ made r (λ _. string-bytes (now (out .exit)) ≡ string-bytes (now (out .entry)) ++ refusalLine refusal) ⌝ }
+    ensures { OnOk result (string_bytes out.new ≡ string_bytes out.old ++ refusal_line refusal) }
 {
     let number = refusal.number();
     write!(out, "no {number}\n")
@@ -17,7 +15,7 @@ pub fn write_refusal(refusal: Refusal, out: &mut String) -> fmt::Result
 
 // A line without the newline that ends it.
 pub fn chomp(line: &[u8]) -> &[u8]
-    ensures { λ r. ⌜ now r ≡ chomped (now (line .entry)) ⌝ }
+    ensures { result.now ≡ chomped line.now }
 {
     match line {
         [text @ .., b'\n'] => text,

@@ -1,20 +1,16 @@
-ghost use mathlib.Core.Path.{_≡_};
-ghost use mathlib.Core.List.{[]};
-ghost use Prim.Native.Nat.{_≤_};
-ghost use lib.Dec.{eqb};
-ghost use lib.ListN.{length};
-ghost use Rattle·std.specs.shelf.Text.{sameBytes};
-ghost use Rattle·text·specs.Words.{isSpace, skipped, span, words, next, none};
+ghost use Rattle.std.specs.Prelude.{◌≡◌, ◌≤◌, [], length};
+ghost use Rattle.std.specs.Str.{bytes_eq};
+ghost use Rattle.text.specs.Words.{is_space, skipped, span, words, next, none};
 
 // Words are separated by spaces, tabs and carriage returns.
 fn is_space(c: u8) -> bool
-    ensures { λ r. ⌜ r ≡ isSpace c ⌝ }
+    ensures { result ≡ is_space c }
 {
     c == b' ' || c == b'\t' || c == b'\r'
 }
 
 fn skip_spaces(text: &[u8]) -> &[u8]
-    ensures { λ r. ⌜ now r ≡ skipped (now (text .entry)) ⌝ }
+    ensures { result.now ≡ skipped text.now }
 {
     let mut rest = text;
     while let [c, more @ ..] = rest {
@@ -28,8 +24,8 @@ fn skip_spaces(text: &[u8]) -> &[u8]
 
 // How many bytes come before the first space.
 fn word_len(text: &[u8]) -> usize
-    ensures value { λ r. ⌜ r ≡ span (now (text .entry)) ⌝ }
-    ensures within { λ r. ⌜ r ≤ length (now (text .entry)) ⌝ }
+    ensures value { result ≡ span text.now }
+    ensures within { result ≤ length text.now }
 {
     for (i, c) in text.iter().enumerate() {
         if is_space(*c) {
@@ -41,7 +37,7 @@ fn word_len(text: &[u8]) -> usize
 
 // The first word of a text, and what follows it; the word is empty where there is none.
 pub fn first_word(text: &[u8]) -> (&[u8], &[u8])
-    ensures { λ r. ⌜ words (now (text .entry)) ≡ next (now (r .0)) (words (now (r .1))) ⌝ }
+    ensures { words text.now ≡ next result.0.now (words result.1.now) }
 {
     let rest = skip_spaces(text);
     rest.split_at(word_len(rest))
@@ -49,13 +45,13 @@ pub fn first_word(text: &[u8]) -> (&[u8], &[u8])
 
 // Whether there is no word.
 pub fn is_blank(text: &[u8]) -> bool
-    ensures { λ r. ⌜ r ≡ none (words (now (text .entry))) ⌝ }
+    ensures { result ≡ none (words text.now) }
 {
     skip_spaces(text).is_empty()
 }
 
 pub fn is_word(word: &[u8], other: &[u8]) -> bool
-    ensures { λ r. ⌜ r ≡ sameBytes (now (word .entry)) (now (other .entry)) ⌝ }
+    ensures { result ≡ bytes_eq word.now other.now }
 {
     word == other
 }

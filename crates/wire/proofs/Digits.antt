@@ -1,9 +1,7 @@
 -- Numbers and the bytes that they are written with.
-use mathlib.Core.Path.{_≡_, refl, sym, ap, _∙_}
-use Prim.Native.Nat.{ℕ, _+_, _*_, _/_, _%_, _^_, _≤_, _<_}
-use native.Mathlib.Omega.{arith}
+use Rattle.std.proofs.Common.{◌≡◌, ℕ, ◌+◌, ◌*◌, ◌/◌, ◌%◌, ◌^◌, ◌<◌, ◌≤◌, sym, refl, ap, ◌∙◌, arith}
 use native.Mathlib.Nat.{div-div-eq-div-mul}
-use Rattle·wire·specs.Format.{number}
+use Rattle.wire.specs.Format.{number}
 
 joins : (t u v w q r y x : ℕ) → t ≡ q → q * 256 + u ≡ r → r * 256 + v ≡ y → y * 256 + w ≡ x → number t u v w ≡ x
 joins t u v w q r y x a b c d = omega arith

@@ -1,17 +1,17 @@
 -- The number of each refusal.
-use Prim.Native.Nat.{ℕ}
-use Rattle·wire·specs.declared.refusal.Refusal.{Refusal}
-use Rattle·wire·specs.declared.refusal.Refusal.the-variants.{Malformed, Misdelivered, NotRoot, NoField, NotHere, NotHolder, OldStamp, OtherCensus, NoRoom, OutOfNumbers, WrongHouse}
+use Rattle.std.specs.Prelude.{ℕ}
+use Rattle.wire.specs.declared.refusal.Refusal.{Refusal}
+use Rattle.wire.specs.declared.refusal.Refusal.TheVariants.{Malformed, Misdelivered, NotRoot, NoField, NotHere, NotHolder, OldStamp, OtherCensus, NoRoom, OutOfNumbers, WrongHouse}
 
-abbrev pub numberOf : Refusal → ℕ
-numberOf Malformed = 1
-numberOf Misdelivered = 2
-numberOf NotRoot = 3
-numberOf NoField = 4
-numberOf NotHere = 5
-numberOf NotHolder = 6
-numberOf OldStamp = 7
-numberOf OtherCensus = 8
-numberOf NoRoom = 9
-numberOf OutOfNumbers = 10
-numberOf WrongHouse = 11
+abbrev pub number_of : Refusal → ℕ
+number_of Malformed = 1
+number_of Misdelivered = 2
+number_of NotRoot = 3
+number_of NoField = 4
+number_of NotHere = 5
+number_of NotHolder = 6
+number_of OldStamp = 7
+number_of OtherCensus = 8
+number_of NoRoom = 9
+number_of OutOfNumbers = 10
+number_of WrongHouse = 11

@@ -1,5 +1,4 @@
-use crate::names::House;
-use crate::names::Name;
+use crate::names::{House, Name};
 
 // What a program asks of its house, as it was written: whether the house can do it is seen there.
 #[derive(Clone, Copy)]

@@ -1,9 +1,4 @@
-use crate::names::Census;
-use crate::names::House;
-use crate::names::Name;
-use crate::names::RoundNumber;
-use crate::names::Stamp;
-use crate::names::Tally;
+use crate::names::{Census, House, Name, RoundNumber, Stamp, Tally};
 
 // A word's objects within the bytes of its message: where they begin, and how many there are.
 #[derive(Clone, Copy)]

@@ -1,6 +1,6 @@
-ghost use mathlib.Core.Path.{_≡_};
-ghost use Rattle·wire·specs.Names.{homeOf, numberOf, named, Parts, wellFormed};
-ghost use Rattle·std.specs.Vec.{made};
+ghost use Rattle.std.specs.Prelude.{◌≡◌, IfOk};
+ghost use Rattle.wire.specs.Names.{home_of, number_of, named, Parts, well_formed};
+
 use crate::refusal::Refusal;
 
 // House: a machine that takes part. The houses are counted from 0, and there are at most sixteen.
@@ -30,8 +30,8 @@ pub struct Tally(pub u32);
 impl Name {
     // The name with this number at this home.
     pub fn new(number: u64, home: House) -> Result<Name, Refusal>
-        ensures value { λ r. ⌜ r ≡ named number home ⌝ }
-        ensures parts { λ r. ⌜ made r (λ n. Parts n number home) ⌝ }
+        ensures value { result ≡ named number home }
+        ensures parts { IfOk result (λ n. Parts n number home) }
     {
         if number == 0 || home.0 >= 16 {
             return Err(Refusal::Malformed);
@@ -44,21 +44,21 @@ impl Name {
 
     // The house that the object lives in.
     pub fn home(self) -> House
-        ensures { λ r. ⌜ r ≡ homeOf self ⌝ }
+        ensures { result ≡ home_of self }
     {
         House((self.0 % 16) as u8)
     }
 
     // The number that the object was made with.
     pub fn number(self) -> u32
-        ensures { λ r. ⌜ r ≡ numberOf self ⌝ }
+        ensures { result ≡ number_of self }
     {
         self.0 / 16
     }
 
     // Whether this can be the name of an object in one of `houses` houses.
     pub fn is_well_formed(self, houses: u8) -> bool
-        ensures { λ r. ⌜ r ≡ wellFormed houses self ⌝ }
+        ensures { result ≡ well_formed houses self }
     {
         self.0 >= 16 && self.home().0 < houses
     }

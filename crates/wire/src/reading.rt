@@ -1,18 +1,9 @@
-ghost use mathlib.Core.Path.{_≡_};
-ghost use lib.ListN.{drop};
-ghost use Rattle·wire·specs.Format.{decode, askOf, giveOf, wordOf, tellingOf, asTelling, asAnswer, roundOf, replyOf, completeOf, numbers, rising, follows};
-ghost use Rattle·wire·specs.Laws.{ReadAs, Rises, Unique};
-ghost use Rattle·std.specs.Results.{Cases};
-ghost use Rattle·std.specs.Vec.{made};
-ghost use Rattle·std.specs.declared.result.Result.the-variants.{Ok, Err};
-use crate::message::Message;
-use crate::message::Part;
-use crate::names::Census;
-use crate::names::House;
-use crate::names::Name;
-use crate::names::RoundNumber;
-use crate::names::Stamp;
-use crate::names::Tally;
+ghost use Rattle.std.specs.Prelude.{◌≡◌, drop, IfOk, Ok, Err, MatchResult};
+ghost use Rattle.wire.specs.Format.{decode, ask_of, give_of, word_of, telling_of, as_telling, as_answer, round_of, reply_of, complete_of, numbers, rising, follows};
+ghost use Rattle.wire.specs.Laws.{ReadAs, Rises, Unique};
+
+use crate::message::{Message, Part};
+use crate::names::{Census, House, Name, RoundNumber, Stamp, Tally};
 use crate::refusal::Refusal;
 
 // A message that came, and the part of its bytes that holds its objects.
@@ -24,16 +15,16 @@ pub struct Received<'a> {
 
 // What these bytes say among `houses` houses. Bytes that are read as a message are the only ones that are, and no message cut short or with more after it is read.
 pub fn read(bytes: &[u8], houses: u8) -> Result<Received<'_>, Refusal>
-    ensures value { λ r. ⌜ Cases r (λ x. ReadAs houses (now (bytes .entry)) (x .message) (now (x .objects))) (λ e. decode houses (now (bytes .entry)) ≡ Err e) ⌝ }
-    ensures rises { λ r. ⌜ made r (λ x. Rises (x .message) (now (x .objects))) ⌝ }
-    ensures unique { λ r. ⌜ made r (λ x. Unique houses (now (bytes .entry)) (x .message)) ⌝ }
+    ensures value { MatchResult result (λ x. ReadAs houses bytes.now x.message x.objects.now) (λ e. decode houses bytes.now ≡ Err e) }
+    ensures rises { IfOk result (λ x. Rises x.message x.objects.now) }
+    ensures unique { IfOk result (λ x. Unique houses bytes.now x.message) }
 {
     with_objects(bytes, houses)
 }
 
 // The message with its objects beside it.
 fn with_objects(bytes: &[u8], houses: u8) -> Result<Received<'_>, Refusal>
-    ensures { λ r. ⌜ Cases r (λ x. ReadAs houses (now (bytes .entry)) (x .message) (now (x .objects))) (λ e. decode houses (now (bytes .entry)) ≡ Err e) ⌝ }
+    ensures { MatchResult result (λ x. ReadAs houses bytes.now x.message x.objects.now) (λ e. decode houses bytes.now ≡ Err e) }
 {
     let message = decoded(bytes, houses)?;
     match message {
@@ -55,7 +46,7 @@ fn with_objects(bytes: &[u8], houses: u8) -> Result<Received<'_>, Refusal>
 
 // The message that these bytes are, among `houses` houses.
 fn decoded(bytes: &[u8], houses: u8) -> Result<Message, Refusal>
-    ensures { λ r. ⌜ r ≡ decode houses (now (bytes .entry)) ⌝ }
+    ensures { result ≡ decode houses bytes.now }
 {
     let [first, ..] = bytes else {
         return Err(Refusal::Malformed);
@@ -74,7 +65,7 @@ fn decoded(bytes: &[u8], houses: u8) -> Result<Message, Refusal>
 }
 
 fn ask(bytes: &[u8], houses: u8) -> Result<Message, Refusal>
-    ensures { λ r. ⌜ r ≡ askOf houses (now (bytes .entry)) ⌝ }
+    ensures { result ≡ ask_of houses bytes.now }
 {
     let [_, a, b, c, d, by, to] = bytes else {
         return Err(Refusal::Malformed);
@@ -91,7 +82,7 @@ fn ask(bytes: &[u8], houses: u8) -> Result<Message, Refusal>
 }
 
 fn give(bytes: &[u8], houses: u8) -> Result<Message, Refusal>
-    ensures { λ r. ⌜ r ≡ giveOf houses (now (bytes .entry)) ⌝ }
+    ensures { result ≡ give_of houses bytes.now }
 {
     let [_, a, b, c, d, to, e, f, g, h] = bytes else {
         return Err(Refusal::Malformed);
@@ -109,7 +100,7 @@ fn give(bytes: &[u8], houses: u8) -> Result<Message, Refusal>
 }
 
 fn word(bytes: &[u8], houses: u8) -> Result<Message, Refusal>
-    ensures { λ r. ⌜ r ≡ wordOf houses (now (bytes .entry)) ⌝ }
+    ensures { result ≡ word_of houses bytes.now }
 {
     let [_, from, to, a, b, c, d, e, f, ..] = bytes else {
         return Err(Refusal::Malformed);
@@ -132,21 +123,21 @@ fn word(bytes: &[u8], houses: u8) -> Result<Message, Refusal>
 
 // The bytes from this place on.
 fn part(bytes: &[u8], at: usize) -> &[u8]
-    ensures { λ r. ⌜ now r ≡ drop at (now (bytes .entry)) ⌝ }
+    ensures { result.now ≡ drop at bytes.now }
 {
     if at < bytes.len() { &bytes[at..] } else { &[] }
 }
 
 // Whether an object of house `to` comes after one with the name `low`.
 fn is_next(low: u32, object: u32, to: u8) -> bool
-    ensures { λ r. ⌜ r ≡ follows to low object ⌝ }
+    ensures { result ≡ follows to low object }
 {
     low < object && object % 16 == to as u32
 }
 
 // Whether the objects of a part rise and live in house `to`.
 fn rises(objects: &[u8], to: u8) -> bool
-    ensures { λ r. ⌜ r ≡ rising to 15 (numbers (now (objects .entry))) ⌝ }
+    ensures { result ≡ rising to 15 (numbers objects.now) }
 {
     let mut low = 15;
     let mut rest = objects;
@@ -163,7 +154,7 @@ fn rises(objects: &[u8], to: u8) -> bool
 
 // What a telling and its answer both hold.
 fn telling_parts(bytes: &[u8], houses: u8) -> Result<(Census, Name, House), Refusal>
-    ensures { λ r. ⌜ r ≡ tellingOf houses (now (bytes .entry)) ⌝ }
+    ensures { result ≡ telling_of houses bytes.now }
 {
     let [_, a, b, c, d, e, f, g, h, from] = bytes else {
         return Err(Refusal::Malformed);
@@ -177,7 +168,7 @@ fn telling_parts(bytes: &[u8], houses: u8) -> Result<(Census, Name, House), Refu
 }
 
 fn telling(bytes: &[u8], houses: u8) -> Result<Message, Refusal>
-    ensures { λ r. ⌜ r ≡ asTelling (tellingOf houses (now (bytes .entry))) ⌝ }
+    ensures { result ≡ as_telling (telling_of houses bytes.now) }
 {
     let (census, object, from) = telling_parts(bytes, houses)?;
     Ok(Message::Telling {
@@ -188,7 +179,7 @@ fn telling(bytes: &[u8], houses: u8) -> Result<Message, Refusal>
 }
 
 fn answer(bytes: &[u8], houses: u8) -> Result<Message, Refusal>
-    ensures { λ r. ⌜ r ≡ asAnswer (tellingOf houses (now (bytes .entry))) ⌝ }
+    ensures { result ≡ as_answer (telling_of houses bytes.now) }
 {
     let (census, object, from) = telling_parts(bytes, houses)?;
     Ok(Message::Answer {
@@ -199,7 +190,7 @@ fn answer(bytes: &[u8], houses: u8) -> Result<Message, Refusal>
 }
 
 fn round(bytes: &[u8]) -> Result<Message, Refusal>
-    ensures { λ r. ⌜ r ≡ roundOf (now (bytes .entry)) ⌝ }
+    ensures { result ≡ round_of bytes.now }
 {
     let [_, a, b, c, d, e, f, g, h] = bytes else {
         return Err(Refusal::Malformed);
@@ -210,7 +201,7 @@ fn round(bytes: &[u8]) -> Result<Message, Refusal>
 }
 
 fn reply(bytes: &[u8], houses: u8) -> Result<Message, Refusal>
-    ensures { λ r. ⌜ r ≡ replyOf houses (now (bytes .entry)) ⌝ }
+    ensures { result ≡ reply_of houses bytes.now }
 {
     let [_, a, b, c, d, e, f, g, h, from, calm, i, j, k, l] = bytes else {
         return Err(Refusal::Malformed);
@@ -231,7 +222,7 @@ fn reply(bytes: &[u8], houses: u8) -> Result<Message, Refusal>
 }
 
 fn complete(bytes: &[u8]) -> Result<Message, Refusal>
-    ensures { λ r. ⌜ r ≡ completeOf (now (bytes .entry)) ⌝ }
+    ensures { result ≡ complete_of bytes.now }
 {
     let [_, a, b, c, d] = bytes else {
         return Err(Refusal::Malformed);

@@ -1,5 +1,5 @@
-ghost use mathlib.Core.Path.{_≡_};
-ghost use Rattle·wire·specs.Refusals.{numberOf};
+ghost use Rattle.std.specs.Prelude.{◌≡◌};
+ghost use Rattle.wire.specs.Refusals.{number_of};
 
 // Why a call or a message changed nothing. Each case has a number, which is what programs print.
 #[derive(Clone, Copy)]
@@ -31,7 +31,7 @@ pub enum Refusal {
 impl Refusal {
     // The number that stands for the case.
     pub fn number(self) -> u8
-        ensures { λ r. ⌜ r ≡ numberOf self ⌝ }
+        ensures { result ≡ number_of self }
     {
         match self {
             Refusal::Malformed => 1,

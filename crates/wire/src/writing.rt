@@ -1,28 +1,20 @@
-ghost use mathlib.Core.Path.{_≡_};
-ghost use mathlib.Core.Bool.{true, cond};
-ghost use mathlib.Core.List.{_++_};
-ghost use Prim.Native.Nat.{_+_, _≤_};
-ghost use lib.ListN.{length};
-ghost use Rattle·std.specs.Of.Vec.{vec-items, vec-len, vec-cap};
-ghost use Rattle·std.specs.Results.{isOk};
-ghost use Rattle·wire·specs.Format.{headOf, encode};
-ghost use Rattle·wire·specs.Laws.{ReadsBack};
-ghost use Rattle·wire·specs.declared.message.Message.the-variants.{Reply};
+ghost use Rattle.std.specs.Prelude.{◌≡◌, ◌+◌, ◌≤◌, true, ◌++◌, length, is_ok, if◌then◌else◌, vec_len, vec_capacity};
+ghost use Rattle.wire.specs.Format.{head_of, encode};
+ghost use Rattle.wire.specs.Laws.{ReadsBack};
+ghost use Rattle.wire.specs.declared.message.Message.TheVariants.{Reply};
+
 use crate::message::Message;
-use crate::names::Census;
-use crate::names::House;
-use crate::names::RoundNumber;
-use crate::names::Tally;
+use crate::names::{Census, House, RoundNumber, Tally};
 use std::alloc::AllocError;
 
 fn calm_byte(calm: bool) -> u8
-    ensures { λ r. ⌜ r ≡ cond calm 1 0 ⌝ }
+    ensures { result ≡ (if calm then 1 else 0) }
 {
     if calm { 1 } else { 0 }
 }
 
 fn reply(census: Census, number: RoundNumber, from: House, calm: bool, tally: Tally) -> [u8; 15]
-    ensures { λ r. ⌜ r ≡ headOf (Reply census number from calm tally) ⌝ }
+    ensures { result ≡ head_of (Reply census number from calm tally) }
 {
     let [a, b, c, d] = census.0.to_be_bytes();
     let [e, f, g, h] = number.0.to_be_bytes();
@@ -48,9 +40,9 @@ fn reply(census: Census, number: RoundNumber, from: House, calm: bool, tally: Ta
 
 // All of a message but a word's objects.
 fn write_head(message: Message, out: &mut Vec<u8>) -> Result<(), AllocError>
-    ensures bytes { λ r. ⌜ vec-items (now (out .exit)) ≡ cond (isOk r) (vec-items (now (out .entry)) ++ headOf message) (vec-items (now (out .entry))) ⌝ }
-    ensures succeeds { λ r. ⌜ (vec-len (now (out .entry)) + 15 ≤ vec-cap (now (out .entry)) → isOk r ≡ true) ⌝ }
-    ensures room { λ r. ⌜ (vec-cap (now (out .entry)) ≤ vec-cap (now (out .exit))) × (vec-len (now (out .exit)) ≤ vec-len (now (out .entry)) + 15) ⌝ }
+    ensures bytes { out.new.items ≡ (if is_ok result then out.old.items ++ head_of message else out.old.items) }
+    ensures succeeds { vec_len out.old + 15 ≤ vec_capacity out.old → is_ok result ≡ true }
+    ensures room { (vec_capacity out.old ≤ vec_capacity out.new) × (vec_len out.new ≤ vec_len out.old + 15) }
 {
     match message {
         Message::Ask { object, by, to } => {
@@ -115,9 +107,9 @@ fn write_head(message: Message, out: &mut Vec<u8>) -> Result<(), AllocError>
 // Appends the bytes of a message, with a word's objects beside it, to `out`.
 // Where memory is wanting nothing is appended; where `out` has room none is asked for.
 pub fn write(message: Message, objects: &[u8], out: &mut Vec<u8>) -> Result<(), AllocError>
-    ensures bytes { λ r. ⌜ vec-items (now (out .exit)) ≡ cond (isOk r) (vec-items (now (out .entry)) ++ encode message (now (objects .entry))) (vec-items (now (out .entry))) ⌝ }
-    ensures succeeds { λ r. ⌜ (vec-len (now (out .entry)) + (15 + length (now (objects .entry))) ≤ vec-cap (now (out .entry)) → isOk r ≡ true) ⌝ }
-    ensures read_back { λ r. ⌜ ReadsBack message (now (objects .entry)) ⌝ }
+    ensures bytes { out.new.items ≡ (if is_ok result then out.old.items ++ encode message objects.now else out.old.items) }
+    ensures succeeds { vec_len out.old + (15 + length objects.now) ≤ vec_capacity out.old → is_ok result ≡ true }
+    ensures read_back { ReadsBack message objects.now }
 {
     let Some(size) = objects.len().checked_add(15) else {
         return Err(AllocError);

@@ -1,32 +1,27 @@
 // Messages by hand: each kind as the bytes that the format gives it, and bytes that are no message.
 #[cfg(test)]
 mod tests {
-    use std::test::*;
-    use wire::Census;
-    use wire::House;
-    use wire::Message;
-    use wire::Name;
-    use wire::Part;
-    use wire::RoundNumber;
-    use wire::Stamp;
-    use wire::Tally;
+    use std::process::Abort;
+    use std::test::Fail;
+    use wire::{Census, House, Message, Name, Part, RoundNumber, Stamp, Tally};
 
     const NO_OBJECTS: [u8; 0] = [];
 
     // What is written of the message is just these bytes.
     fn writes(
-        rt: &LibcRuntime,
+        rt: &(impl Abort + AllocGlobal),
         message: Message,
         objects: &[u8],
         bytes: &[u8],
     ) -> Result<(), Fail> {
         let mut out = Vec::new(rt.alloc());
         wire::write(message, objects, &mut out)?;
-        check(out.as_slice() == bytes)
+        assert!(rt; out.as_slice() == bytes);
+        Ok(())
     }
 
     #[test]
-    fn fixed_messages(rt: LibcRuntime) -> Result<(), Fail> {
+    fn fixed_messages(rt: HostRuntime) -> Result<(), Fail> {
         // 258 = 16 · 16 + 2
         let object = Name(258);
         let census = Census(0x0102_0304);
@@ -57,7 +52,7 @@ mod tests {
     }
 
     #[test]
-    fn messages_of_rounds(rt: LibcRuntime) -> Result<(), Fail> {
+    fn messages_of_rounds(rt: HostRuntime) -> Result<(), Fail> {
         let census = Census(1);
         let number = RoundNumber(2);
         writes(
@@ -88,7 +83,7 @@ mod tests {
     }
 
     #[test]
-    fn word_with_objects(rt: LibcRuntime) -> Result<(), Fail> {
+    fn word_with_objects(rt: HostRuntime) -> Result<(), Fail> {
         let word = Message::Word {
             from: House(1),
             to: House(0),
@@ -104,20 +99,23 @@ mod tests {
     }
 
     #[test]
-    fn read_word() -> Result<(), Fail> {
+    fn read_word(rt: HostRuntime) -> Result<(), Fail> {
         match wire::read(&[3, 1, 0, 0, 0, 0, 7, 0, 2, 0, 0, 0, 16, 0, 0, 1, 0], 2) {
             Ok(came) => {
-                check(came.objects == &[0, 0, 0, 16, 0, 0, 1, 0])?;
+                assert!(rt; came.objects == &[0, 0, 0, 16, 0, 0, 1, 0]);
                 match came.message {
                     Message::Word {
                         from,
                         to,
                         stamp,
                         objects,
-                    } => check_eq(
-                        (from.0, to.0, stamp.0, objects.at, objects.count),
-                        (1, 0, 7, 9, 2),
-                    ),
+                    } => {
+                        assert_eq!(rt;
+                            (from.0, to.0, stamp.0, objects.at, objects.count),
+                            (1, 0, 7, 9, 2)
+                        );
+                        Ok(())
+                    },
                     _ => Err(Fail::new("another message")),
                 }
             }
@@ -125,44 +123,52 @@ mod tests {
         }
     }
 
-    fn is_none(bytes: &[u8], houses: u8) -> Result<(), Fail> {
-        check(wire::read(bytes, houses).is_err())
+    fn is_none(rt: &impl Abort, bytes: &[u8], houses: u8) {
+        assert!(rt; wire::read(bytes, houses).is_err());
     }
 
     #[test]
-    fn malformed() -> Result<(), Fail> {
-        is_none(&[], 2)?;
-        is_none(&[0], 2)?;
-        is_none(&[9, 0, 0, 0, 1], 2)?;
-        is_none(&[255], 2)?;
+    fn malformed(rt: HostRuntime) {
+        is_none(&rt, &[], 2);
+        is_none(&rt, &[0], 2);
+        is_none(&rt, &[9, 0, 0, 0, 1], 2);
+        is_none(&rt, &[255], 2);
         // too short, too long
-        is_none(&[8, 0, 0, 0], 2)?;
-        is_none(&[8, 0, 0, 0, 1, 0], 2)?;
+        is_none(&rt, &[8, 0, 0, 0], 2);
+        is_none(&rt, &[8, 0, 0, 0, 1, 0], 2);
         // a house that is not there, the home of a name too, and number 0
-        is_none(&[1, 0, 0, 0, 16, 0, 2], 2)?;
-        is_none(&[1, 0, 0, 0, 18, 0, 1], 2)?;
-        is_none(&[1, 0, 0, 0, 1, 0, 1], 2)?;
+        is_none(&rt, &[1, 0, 0, 0, 16, 0, 2], 2);
+        is_none(&rt, &[1, 0, 0, 0, 18, 0, 1], 2);
+        is_none(&rt, &[1, 0, 0, 0, 1, 0, 1], 2);
         // calm is 0 or 1
-        is_none(&[7, 0, 0, 0, 1, 0, 0, 0, 2, 0, 2, 0, 0, 0, 0], 2)
+        is_none(&rt, &[7, 0, 0, 0, 1, 0, 0, 0, 2, 0, 2, 0, 0, 0, 0], 2);
     }
 
     #[test]
-    fn malformed_words() -> Result<(), Fail> {
+    fn malformed_words(rt: HostRuntime) {
         // a count that is too high, objects that do not rise, one of another house
-        is_none(&[3, 1, 0, 0, 0, 0, 7, 0, 2, 0, 0, 0, 16], 2)?;
-        is_none(&[3, 1, 0, 0, 0, 0, 7, 0, 2, 0, 0, 0, 32, 0, 0, 0, 16], 2)?;
-        is_none(&[3, 1, 0, 0, 0, 0, 7, 0, 2, 0, 0, 0, 16, 0, 0, 0, 16], 2)?;
-        is_none(&[3, 1, 0, 0, 0, 0, 7, 0, 1, 0, 0, 0, 17], 2)
+        is_none(&rt, &[3, 1, 0, 0, 0, 0, 7, 0, 2, 0, 0, 0, 16], 2);
+        is_none(
+            &rt,
+            &[3, 1, 0, 0, 0, 0, 7, 0, 2, 0, 0, 0, 32, 0, 0, 0, 16],
+            2,
+        );
+        is_none(
+            &rt,
+            &[3, 1, 0, 0, 0, 0, 7, 0, 2, 0, 0, 0, 16, 0, 0, 0, 16],
+            2,
+        );
+        is_none(&rt, &[3, 1, 0, 0, 0, 0, 7, 0, 1, 0, 0, 0, 17], 2);
     }
 
     #[test]
-    fn names() -> Result<(), Fail> {
+    fn names(rt: HostRuntime) {
         match Name::new(2, House(1)) {
-            Ok(name) => check_eq((name.0, name.number(), name.home().0), (33, 2, 1))?,
-            Err(_) => check(false)?,
+            Ok(name) => assert_eq!(rt; (name.0, name.number(), name.home().0), (33, 2, 1)),
+            Err(_) => assert!(rt; false),
         }
-        check(Name::new(268435455, House(15)).is_ok())?;
-        check(Name::new(268435456, House(0)).is_err())?;
-        check(Name::new(0, House(0)).is_err())
+        assert!(rt; Name::new(268435455, House(15)).is_ok());
+        assert!(rt; Name::new(268435456, House(0)).is_err());
+        assert!(rt; Name::new(0, House(0)).is_err());
     }
 }

@@ -1,34 +1,31 @@
-use mathlib.Core.Path.{_≡_}
-use Prim.Native.Nat.{_+_}
-use native.Mathlib.Omega.{arith}
-use lib.ListN.{length, getD, drop}
-use Rattle·std.proofs.shelf.Lists.{at-drop-all}
-use Rattle·wire.specs.Names.{name}
-use Rattle·census·specs.Lists.{numbers}
-use Rattle·census·specs.Model.{names, untold}
-use Rattle·census·specs.Shown.{toldOf}
-use Rattle·census·proofs.Counts.{untold-in, untold-out}
-use Rattle·census·proofs.Places.{place-in, place-out}
-use Rattle·census·proofs.table.count_untold.Needs as need
-use Rattle·census·proofs.table.count_untold.Needs.{in-Ok, in-Err}
+use Rattle.std.proofs.Common.{◌≡◌, ◌+◌, length, get_or, drop, arith}
+use Rattle.std.proofs.lemmas.List.{at_drop_all}
+use Rattle.wire.specs.Names.{name}
+use Rattle.census.specs.Lists.{numbers}
+use Rattle.census.specs.Model.{names, untold}
+use Rattle.census.specs.Shown.{told_of}
+use Rattle.census.proofs.Counts.{untold_in, untold_out}
+use Rattle.census.proofs.Places.{place_in, place_out}
+use Rattle.census.proofs.table.count_untold.Goals as goal
+use Rattle.census.proofs.table.count_untold.Goals.{in-Ok, in-Err}
 
-pub loop-o-again : need.loop-o-again
-loop-o-again c =
-    let us = c .args .in-use .now in
-    let ts = toldOf (c .args .told .now) in
-    let i = c .loop-o .o-index in
-    let u = getD us i (name 0) .0 in
-    elim (c .match-find .came) [
+pub loop-o-preserved : goal.loop-o-preserved
+loop-o-preserved c =
+    let us = c.args.in-use.now in
+    let ts = told_of c.args.told.now in
+    let i = c.loop-o.o-index in
+    let u = (get_or us i (name 0)).0 in
+    elim c.match-find.branch [
       | in-Ok w ↦
-          let e : length (untold (numbers (drop i us)) ts) ≡ length (untold (numbers (drop (i + 1) us)) ts) = untold-in us ts i (c .loop-o-test .taken) (place-in u (names ts) _ (w .in-Ok .ensures tt .value) .0) in
-          (omega (arith, w .count-is), omega (arith, w .count-is))
+          let e : length (untold (numbers (drop i us)) ts) ≡ length (untold (numbers (drop (i + 1) us)) ts) = untold_in us ts i c.loop-o-test.true (place_in u (names ts) _ w.in-Ok.ensures.value).0 in
+          (omega (arith, w.count-is), omega (arith, w.count-is))
       | in-Err w ↦
-          let e : length (untold (numbers (drop i us)) ts) ≡ length (untold (numbers (drop (i + 1) us)) ts) + 1 = untold-out us ts i (c .loop-o-test .taken) (place-out u (names ts) _ (w .in-Err .ensures tt .value) .0) in
-          (omega (arith, w .count-is), omega (arith, w .count-is))
+          let e : length (untold (numbers (drop i us)) ts) ≡ length (untold (numbers (drop (i + 1) us)) ts) + 1 = untold_out us ts i c.loop-o-test.true (place_out u (names ts) _ w.in-Err.ensures.value).0 in
+          (omega (arith, w.count-is), omega (arith, w.count-is))
     ]
 
-pub returns : need.returns
+pub returns : goal.returns
 returns c =
-    let us = c .args .in-use .now in
-    let ts = toldOf (c .args .told .now) in
-    omega (arith, at-drop-all (λ xs. length (untold (numbers xs) ts)) us (c .loop-o .o-index) (c .loop-o-test .left))
+    let us = c.args.in-use.now in
+    let ts = told_of c.args.told.now in
+    omega (arith, at_drop_all (λ xs. length (untold (numbers xs) ts)) us c.loop-o.o-index c.loop-o-test.false)

@@ -1,39 +1,31 @@
-use mathlib.Core.Path.{_≡_, refl, sym, ap, subst, _∙_}
-use mathlib.Core.Bool.{true, cond}
-use mathlib.Core.List.{_∷_, []}
-use Prim.Native.Nat.{_<_}
-use native.Mathlib.Omega.{arith}
-use lib.ListN.{length}
-use Rattle·std.specs.Holes.{inserted}
-use Rattle·std.specs.Of.Vec.{vec-items, vec-len, vec-cap}
-use Rattle·std.specs.Results.{isOk}
-use Rattle·std.specs.declared.result.Result.the-variants.{Ok, Err}
-use Rattle·census·specs.declared.telling.Telling.the-variants.{Awaited}
-use Rattle·census·specs.declared.telling.Told.{Told}
-use Rattle·census·specs.Lists.{placeOf}
-use Rattle·census·specs.Model.{names, untold}
-use Rattle·census·specs.Shown.{toldOf}
-use Rattle·census·proofs.Places.{place-in, place-out}
-use Rattle·census·proofs.Entering.{entered-in, table-entered, untold-one}
-use Rattle·census·proofs.table.enter.Needs as need
+use Rattle.std.proofs.Common.{◌≡◌, ◌<◌, true, cond, [], ◌∷◌, length, is_ok, Ok, Err, vec_items, vec_len, vec_capacity, sym, refl, ap, ◌∙◌, subst, arith}
+use Rattle.std.specs.List.{insert}
+use Rattle.census.specs.declared.telling.Telling.TheVariants.{Awaited}
+use Rattle.census.specs.declared.telling.Told.{Told}
+use Rattle.census.specs.Lists.{place_of}
+use Rattle.census.specs.Model.{names, untold}
+use Rattle.census.specs.Shown.{told_of}
+use Rattle.census.proofs.Places.{place_in, place_out}
+use Rattle.census.proofs.Entering.{entered_in, table_entered, untold_one}
+use Rattle.census.proofs.table.enter.Goals as goal
 
-pub returns-in-rest : need.returns-in-rest
-returns-in-rest c =
-    let ts = c .args .told .now .items in
-    let o = c .args .o .0 in
-    let f : Ok (c .in-rest .field-0) ≡ placeOf o (names (toldOf ts)) = subst (λ xs. Ok (c .in-rest .field-0) ≡ placeOf o (names (toldOf xs))) (c .deref .ensures .value) (c .in-rest .ensures tt .value) in
-    record { after = sym (entered-in o (toldOf ts) (c .pre .rises) (place-in o (names (toldOf ts)) (c .in-rest .field-0) f .0)); room = omega arith }
+pub returns-in-default : goal.returns-in-default
+returns-in-default c =
+    let ts = c.args.told.now.items in
+    let o = c.args.o.0 in
+    let f : Ok c.in-default.field-0 ≡ place_of o (names (told_of ts)) = subst (λ xs. Ok c.in-default.field-0 ≡ place_of o (names (told_of xs))) c.deref.ensures.value c.in-default.ensures.value in
+    record { after = sym (entered_in o (told_of ts) c.requires.rises (place_in o (names (told_of ts)) c.in-default.field-0 f).0); room = omega arith }
 
-pub returns : need.returns
+pub returns : goal.returns
 returns c =
-    let ts = c .args .told .now .items in
-    let o = c .args .o .0 in
-    let at = c .in-Err .at in
-    let new : Told = record { object = c .args .o; state = Awaited } in
-    let f : Err at ≡ placeOf o (names (toldOf ts)) = subst (λ xs. Err at ≡ placeOf o (names (toldOf xs))) (c .deref .ensures .value) (c .in-Err .ensures tt .value) in
-    let p = place-out o (names (toldOf ts)) at f in
-    let one : length (untold (o ∷ []) (toldOf ts)) ≡ 1 = untold-one o (toldOf ts) (p .0) in
-    let room : vec-len (c .args .told .now) < vec-cap (c .args .told .now) = omega (arith, c .pre .room) in
-    let ok : isOk (c .insert .result) ≡ true = c .insert .ensures .succeeds room in
-    let items : vec-items (c .insert .last .self) ≡ inserted ts at new = subst (λ b. vec-items (c .insert .last .self) ≡ cond b (inserted ts at new) ts) ok (c .insert .ensures .items) in
-    record { after = ap toldOf items ∙ table-entered o at ts new refl (p .0) (p .1); room = c .insert .ensures .capacity }
+    let ts = c.args.told.now.items in
+    let o = c.args.o.0 in
+    let at = c.in-Err.at in
+    let new : Told = record { object = c.args.o; state = Awaited } in
+    let f : Err at ≡ place_of o (names (told_of ts)) = subst (λ xs. Err at ≡ place_of o (names (told_of xs))) c.deref.ensures.value c.in-Err.ensures.value in
+    let p = place_out o (names (told_of ts)) at f in
+    let one : length (untold (o ∷ []) (told_of ts)) ≡ 1 = untold_one o (told_of ts) p.0 in
+    let room : vec_len c.args.told.now < vec_capacity c.args.told.now = omega (arith, c.requires.room) in
+    let ok : is_ok c.insert.result ≡ true = c.insert.ensures.succeeds room in
+    let items : vec_items c.insert.new.self ≡ insert ts at new = subst (λ b. vec_items c.insert.new.self ≡ cond b (insert ts at new) ts) ok c.insert.ensures.items in
+    record { after = ap told_of items ∙ table_entered o at ts new refl p.0 p.1; room = c.insert.ensures.capacity }

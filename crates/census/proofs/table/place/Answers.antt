@@ -1,29 +1,27 @@
-use Prim.Native.Nat.{_<_, _+_, _-_, _/_}
-use native.Mathlib.Omega.{arith}
-use lib.ListN.{length}
-use Rattle·census·specs.Lists.{below}
-use Rattle·census·specs.Model.{names}
-use Rattle·census·specs.Shown.{toldOf}
-use Rattle·census·proofs.Places.{below-within, below-less, below-more, length-names, names-at, nobody}
-use Rattle·census·proofs.table.place.Needs as need
+use Rattle.std.proofs.Common.{◌+◌, ◌-◌, ◌/◌, ◌<◌, length, arith}
+use Rattle.census.specs.Lists.{below}
+use Rattle.census.specs.Model.{names}
+use Rattle.census.specs.Shown.{told_of}
+use Rattle.census.proofs.Places.{below_within, below_less, below_more, length_names, names_at, nobody}
+use Rattle.census.proofs.table.place.Goals as goal
 
-pub loop-low-holds : need.loop-low-holds
-loop-low-holds c =
-    let ts = c .args .told .now in
-    (omega arith, omega (arith, below-within (c .args .o .0) (names (toldOf ts)), length-names ts), omega arith)
+pub loop-low-init : goal.loop-low-init
+loop-low-init c =
+    let ts = c.args.told.now in
+    (omega arith, omega (arith, below_within c.args.o.0 (names (told_of ts)), length_names ts), omega arith)
 
-pub loop-low-again-then-told-middle : need.loop-low-again-then-told-middle
-loop-low-again-then-told-middle c =
-    let ts = c .args .told .now in
-    let middle = c .loop-low .low + (c .loop-low .high - c .loop-low .low) / 2 in
+pub loop-low-preserved-then-told-middle : goal.loop-low-preserved-then-told-middle
+loop-low-preserved-then-told-middle c =
+    let ts = c.args.told.now in
+    let middle = c.loop-low.low + (c.loop-low.high - c.loop-low.low) / 2 in
     let h : middle < length ts = omega arith in
-    let l : middle < below (c .args .o .0) (names (toldOf ts)) =
-    below-less (c .args .o .0) (names (toldOf ts)) middle (c .pre) (omega (arith, length-names ts)) (rw (names-at ts middle nobody h) (c .if-told-middle .taken)) in
-    (omega arith, c .loop-low .inv .1, c .loop-low .inv .2)
+    let l : middle < below c.args.o.0 (names (told_of ts)) =
+    below_less c.args.o.0 (names (told_of ts)) middle c.requires (omega (arith, length_names ts)) (rw (names_at ts middle nobody h) c.if-told-middle.true) in
+    (omega arith, c.loop-low.invariant.1, c.loop-low.invariant.2)
 
-pub loop-low-again : need.loop-low-again
-loop-low-again c =
-    let ts = c .args .told .now in
-    let middle = c .loop-low .low + (c .loop-low .high - c .loop-low .low) / 2 in
+pub loop-low-preserved : goal.loop-low-preserved
+loop-low-preserved c =
+    let ts = c.args.told.now in
+    let middle = c.loop-low.low + (c.loop-low.high - c.loop-low.low) / 2 in
     let h : middle < length ts = omega arith in
-    (c .loop-low .inv .0, below-more (c .args .o .0) (names (toldOf ts)) middle (c .pre) (omega (arith, length-names ts)) (rw (names-at ts middle nobody h) (c .if-told-middle .left)), omega arith)
+    (c.loop-low.invariant.0, below_more c.args.o.0 (names (told_of ts)) middle c.requires (omega (arith, length_names ts)) (rw (names_at ts middle nobody h) c.if-told-middle.false), omega arith)

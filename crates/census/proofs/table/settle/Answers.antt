@@ -1,24 +1,23 @@
-use mathlib.Core.Path.{_≡_, refl, sym, ap, subst, _∙_}
-use Rattle·std.specs.declared.result.Result.the-variants.{Ok, Err}
-use Rattle·census·specs.Lists.{placeOf}
-use Rattle·census·specs.Model.{names}
-use Rattle·census·specs.Shown.{toldOf}
-use Rattle·census·proofs.Places.{place-in, place-out}
-use Rattle·census·proofs.Settling.{names-settled, settled-out, table-settled}
-use Rattle·census·proofs.table.settle.Needs as need
+use Rattle.std.proofs.Common.{◌≡◌, Ok, Err, sym, refl, ap, ◌∙◌, subst}
+use Rattle.census.specs.Lists.{place_of}
+use Rattle.census.specs.Model.{names}
+use Rattle.census.specs.Shown.{told_of}
+use Rattle.census.proofs.Places.{place_in, place_out}
+use Rattle.census.proofs.Settling.{names_settled, settled_out, table_settled}
+use Rattle.census.proofs.table.settle.Goals as goal
 
-pub returns-in-rest : need.returns-in-rest
-returns-in-rest c =
-    let ts = c .args .told .now .items in
-    let o = c .args .o .0 in
-    let f : Err (c .in-rest .field-0) ≡ placeOf o (names (toldOf ts)) = subst (λ xs. Err (c .in-rest .field-0) ≡ placeOf o (names (toldOf xs))) (c .deref .ensures .value) (c .in-rest .ensures tt .value) in
-    record { after = sym (settled-out o (toldOf ts) (place-out o (names (toldOf ts)) (c .in-rest .field-0) f .0)); same = refl }
+pub returns-in-default : goal.returns-in-default
+returns-in-default c =
+    let ts = c.args.told.now.items in
+    let o = c.args.o.0 in
+    let f : Err c.in-default.field-0 ≡ place_of o (names (told_of ts)) = subst (λ xs. Err c.in-default.field-0 ≡ place_of o (names (told_of xs))) c.deref.ensures.value c.in-default.ensures.value in
+    record { after = sym (settled_out o (told_of ts) (place_out o (names (told_of ts)) c.in-default.field-0 f).0); same = refl }
 
-pub returns : need.returns
+pub returns : goal.returns
 returns c =
-    let ts = c .args .told .now .items in
-    let o = c .args .o .0 in
-    let f : Ok (c .in-Ok .at) ≡ placeOf o (names (toldOf ts)) = subst (λ xs. Ok (c .in-Ok .at) ≡ placeOf o (names (toldOf xs))) (c .deref .ensures .value) (c .in-Ok .ensures tt .value) in
-    let p = place-in o (names (toldOf ts)) (c .in-Ok .at) f in
-    let after = table-settled o (c .in-Ok .at) ts _ refl (c .pre) (p .0) (p .1) in
-    record { after = after; same = ap names after ∙ names-settled o (toldOf ts) }
+    let ts = c.args.told.now.items in
+    let o = c.args.o.0 in
+    let f : Ok c.in-Ok.at ≡ place_of o (names (told_of ts)) = subst (λ xs. Ok c.in-Ok.at ≡ place_of o (names (told_of xs))) c.deref.ensures.value c.in-Ok.ensures.value in
+    let p = place_in o (names (told_of ts)) c.in-Ok.at f in
+    let after = table_settled o c.in-Ok.at ts _ refl c.requires p.0 p.1 in
+    record { after = after; same = ap names after ∙ names_settled o (told_of ts) }

@@ -1,23 +1,18 @@
-use mathlib.Core.Path.{_≡_, _∙_, ap, sym}
-use mathlib.Core.List.{List, _∷_, [], _++_}
-use Prim.Native.Nat.{ℕ, _≤_}
-use native.Mathlib.Omega.{arith}
-use Rattle·std.specs.Of.Vec.{vec-items}
-use Rattle·std.specs.Results.{isOk}
-use Rattle·std.proofs.shelf.Tests.{cond-true}
-use Rattle·net·specs.Rows.{empties}
-use Rattle·net·proofs.Rows.{row-more, not-refused}
-use Rattle·net·proofs.making.row.Needs as need
+use Rattle.std.proofs.Common.{◌≡◌, ℕ, ◌≤◌, List, [], ◌∷◌, ◌++◌, is_ok, vec_items, sym, ap, ◌∙◌, arith}
+use Rattle.std.proofs.lemmas.Bool.{cond-true}
+use Rattle.net.specs.Rows.{empties}
+use Rattle.net.proofs.Rows.{row_more, not_refused}
+use Rattle.net.proofs.making.row.Goals as goal
 
 level : {a b : ℕ} → a ≤ b → b ≤ a → a ≡ b
 level p q = omega arith
 
-pub returns : need.returns
-returns c = c .loop-i .inv .0 ∙ ap (λ (k : ℕ). empties (c .args .count) k) (level (c .loop-i .inv .1) (c .loop-i-test .left))
+pub returns : goal.returns
+returns c = c.loop-i.invariant.0 ∙ ap (λ (k : ℕ). empties c.args.count k) (level c.loop-i.invariant.1 c.loop-i-test.false)
 
-pub loop-i-again : need.loop-i-again
-loop-i-again c = (
-  row-more (c .args .count) (c .loop-i .i) (vec-items (c .loop-i .houses)) (vec-items (c .push .last .self)) (c .in-Continue-store .store) (c .loop-i .inv .0)
-      (c .push .ensures .items ∙ cond-true (isOk (c .push .result)) (vec-items (c .loop-i .houses) ++ (c .in-Continue-store .store ∷ [])) (vec-items (c .loop-i .houses)) (not-refused (c .push .result) (c .if-is-err .ensures tt .value))) (c .in-Continue-store .ensures tt),
-  omega (arith, c .loop-i-test .taken),
+pub loop-i-preserved : goal.loop-i-preserved
+loop-i-preserved c = (
+  row_more c.args.count c.loop-i.i (vec_items c.loop-i.houses) (vec_items c.push.new.self) c.in-ok-store.store c.loop-i.invariant.0
+      (c.push.ensures.items ∙ cond-true (is_ok c.push.result) (vec_items c.loop-i.houses ++ (c.in-ok-store.store ∷ [])) (vec_items c.loop-i.houses) (not_refused c.push.result c.if-is-err.ensures.value)) c.in-ok-store.ensures,
+  omega (arith, c.loop-i-test.true),
 )

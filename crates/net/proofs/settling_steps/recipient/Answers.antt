@@ -1,14 +1,14 @@
-use mathlib.Core.Path.{_∙_, ap, sym}
-use Rattle·wire.specs.Format.{decode}
-use Rattle·net·proofs.SettlingReads.{read-ok, read-err}
-use Rattle·net·proofs.settling_steps.recipient.Needs as need
+use Rattle.std.proofs.Common.{sym, ap, ◌∙◌}
+use Rattle.wire.specs.Format.{decode}
+use Rattle.net.proofs.SettlingReads.{read_ok, read_err}
+use Rattle.net.proofs.settling_steps.recipient.Goals as goal
 
-pub returns-in-Ok : need.returns-in-Ok
+pub returns-in-Ok : goal.returns-in-Ok
 returns-in-Ok c =
-    read-ok (c .args .houses) (c .args .sent .now) (c .args .message) (c .index-sent-message .result) (c .pre) (c .index-sent-message .is) (c .in-Ok .read .message) (c .goes-to .result) (c .goes-to .ensures)
-    (ap (decode (c .args .houses)) (sym (c .deref .ensures .value)) ∙ c .in-Ok .ensures tt .value .message)
+    read_ok c.args.houses c.args.sent.now c.args.message c.index-sent-message.result c.requires c.index-sent-message.is c.in-Ok.read.message c.goes-to.result c.goes-to.ensures
+    (ap (decode c.args.houses) (sym c.deref.ensures.value) ∙ c.in-Ok.ensures.value.message)
 
-pub returns-in-Err : need.returns-in-Err
+pub returns-in-Err : goal.returns-in-Err
 returns-in-Err c =
-    read-err (c .args .houses) (c .args .sent .now) (c .args .message) (c .index-sent-message .result) (c .pre) (c .index-sent-message .is) (c .in-Err .field-0)
-    (ap (decode (c .args .houses)) (sym (c .deref .ensures .value)) ∙ c .in-Err .ensures tt .value)
+    read_err c.args.houses c.args.sent.now c.args.message c.index-sent-message.result c.requires c.index-sent-message.is c.in-Err.field-0
+    (ap (decode c.args.houses) (sym c.deref.ensures.value) ∙ c.in-Err.ensures.value)

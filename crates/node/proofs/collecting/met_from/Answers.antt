@@ -1,17 +1,16 @@
-use mathlib.Core.Path.{_≡_, sym, ap, _∙_}
-use Rattle·std.specs.Of.Vec.{vec-items}
-use Rattle·tables.proofs.Places.{names-in}
-use Rattle·tables.specs.Met.{FarInUse}
-use Rattle·tables.specs.Model.{rising}
-use Rattle·tables.specs.Shown.{numbers}
-use Rattle·objects.specs.Calls.{heapOf}
-use Rattle·rules.specs.Executed.{inUse}
-use Rattle·node·proofs.Bytes.{found}
-use Rattle·rules.proofs.Reached.{in-use}
-use Rattle·node·proofs.collecting.met_from.Needs as need
+use Rattle.std.proofs.Common.{◌≡◌, vec_items, sym, ap, ◌∙◌}
+use Rattle.tables.proofs.Places.{names_in_place}
+use Rattle.tables.specs.Met.{FarInUse}
+use Rattle.tables.specs.Model.{rising}
+use Rattle.tables.specs.Shown.{numbers}
+use Rattle.objects.specs.Calls.{heap_of}
+use Rattle.rules.specs.Executed.{names_in_use}
+use Rattle.node.proofs.Bytes.{found}
+use Rattle.rules.proofs.Reached.{in_use}
+use Rattle.node.proofs.collecting.met_from.Goals as goal
 
-pub returns : need.returns
+pub returns : goal.returns
 returns c =
-    let t = c .args .objects .now in
-    let from = numbers (c .args .names .now) in
-    found (c .in-use .result) (FarInUse (heapOf t) from) (inUse from (heapOf t)) (c .in-use .ensures .sole) (in-use (heapOf t) from (ap rising (names-in (vec-items (t .objects))) ∙ t .ordered))
+    let t = c.args.objects.now in
+    let from = numbers c.args.names.now in
+    found c.in-use.result (FarInUse (heap_of t) from) (names_in_use from (heap_of t)) c.in-use.ensures.sole (in_use (heap_of t) from (ap rising (names_in_place (vec_items t.objects)) ∙ t.ordered))

@@ -1,14 +1,14 @@
-use Rattle·tables.specs.Met.{Refers}
-use Rattle·objects.specs.Calls.{heapOf}
-use Rattle·rules.specs.Executed.{referencesOf}
-use Rattle·node·proofs.Bytes.{found}
-use Rattle·node·proofs.Counts.{found-few}
-use Rattle·rules.proofs.Reached.{refers}
-use Rattle·node·proofs.collecting.references.Needs as need
+use Rattle.tables.specs.Met.{Refers}
+use Rattle.objects.specs.Calls.{heap_of}
+use Rattle.rules.specs.Executed.{references_of}
+use Rattle.node.proofs.Bytes.{found}
+use Rattle.node.proofs.Counts.{found_few}
+use Rattle.rules.proofs.Reached.{refers}
+use Rattle.node.proofs.collecting.references.Goals as goal
 
-pub returns : need.returns
+pub returns : goal.returns
 returns c =
-    let t = c .args .objects .now in
-    let j = c .args .house .0 in
-    let names = found (c .references-of .result) (Refers (heapOf t) j) (referencesOf j (heapOf t)) (c .references-of .ensures .sole) (refers (heapOf t) j) in
-    record { few = found-few (c .references-of .result) j t names; names = names }
+    let t = c.args.objects.now in
+    let j = c.args.house.0 in
+    let names = found c.references-of.result (Refers (heap_of t) j) (references_of j (heap_of t)) c.references-of.ensures.sole (refers (heap_of t) j) in
+    record { few = found_few c.references-of.result j t names; names = names }

@@ -1,6 +1,6 @@
-use Rattle·wire.specs.Format.{encode}
-use Rattle·store·proofs.Posting.{posted}
-use Rattle·store·proofs.sending.post_one.Needs as need
+use Rattle.wire.specs.Format.{encode}
+use Rattle.store.proofs.Posting.{posted}
+use Rattle.store.proofs.sending.post_one.Goals as goal
 
-pub returns : need.returns
-returns c _ = posted (c .args .out .now) (c .push .last .self) (c .in-Continue-bytes .bytes) (encode (c .args .message) (c .args .objects .now)) (c .in-Continue-push .ensures tt .items) (c .in-Continue-bytes .ensures tt)
+pub returns : goal.returns
+returns c _ = posted c.args.out.now c.push.new.self c.in-ok-bytes.bytes (encode c.args.message c.args.objects.now) c.in-ok-push.ensures.items c.in-ok-bytes.ensures

@@ -1,48 +1,42 @@
-use mathlib.Core.Path.{_≡_, refl, sym, ap, subst, _∙_}
-use mathlib.Core.Bool.{true, false}
-use mathlib.Core.List.{map}
-use Prim.Native.Nat.{_<_, _≤_}
-use native.Mathlib.Omega.{arith}
-use lib.Dec.{ltb}
-use lib.ListN.{length, getD, set}
-use Rattle·std.proofs.shelf.Lists.{length-map}
-use Rattle·std.proofs.shelf.Tests.{le-ltb, lt-ltb}
-use Rattle·tables·specs.Marks.{count, noted}
-use Rattle·tables·specs.Shown.{namesIn, nameIn}
-use Rattle·tables·proofs.Places.{place-facts, place-missing}
-use Rattle·tables·proofs.Noted.{noted-out, noted-at, set-same, count-set}
-use Rattle·tables·proofs.marking.note.Needs as need
+use Rattle.std.proofs.Common.{◌≡◌, ◌<◌, ◌≤◌, true, false, ltb, map, length, get_or, set, sym, refl, ap, ◌∙◌, subst, arith}
+use Rattle.std.proofs.lemmas.List.{length-map}
+use Rattle.std.proofs.lemmas.Bool.{le-ltb, lt-ltb}
+use Rattle.tables.specs.Marks.{count, noted}
+use Rattle.tables.specs.Shown.{names_in, name_in}
+use Rattle.tables.proofs.Places.{place_facts, place_missing}
+use Rattle.tables.proofs.Noted.{noted_out, noted_at, set_same, count_set}
+use Rattle.tables.proofs.marking.note.Goals as goal
 
-pub returns-in-rest : need.returns-in-rest
-returns-in-rest c =
-    let ns = namesIn (c .args .objects .now) in
-    let ms = c .args .marks .now in
+pub returns-in-default : goal.returns-in-default
+returns-in-default c =
+    let ns = names_in c.args.objects.now in
+    let ms = c.args.marks.now in
     record {
-      after = sym (noted-out (c .args .p .0) ns ms (place-missing (c .args .p .0) ns (c .in-rest .ensures tt .value)));
+      after = sym (noted_out c.args.p.0 ns ms (place_missing c.args.p.0 ns c.in-default.ensures.value));
       added = sym (le-ltb (count ms) (count ms) (omega arith));
     }
 
-pub returns-then-marks-at : need.returns-then-marks-at
+pub returns-then-marks-at : goal.returns-then-marks-at
 returns-then-marks-at c =
-    let xs = c .args .objects .now in
-    let ns = namesIn xs in
-    let ms = c .args .marks .now in
-    let at = c .in-Some .at in
-    let f = place-facts (c .args .p .0) ns at (c .pre .ordered) (c .in-Some .ensures tt .value) in
+    let xs = c.args.objects.now in
+    let ns = names_in xs in
+    let ms = c.args.marks.now in
+    let at = c.in-Some.at in
+    let f = place_facts c.args.p.0 ns at c.requires.ordered c.in-Some.ensures.value in
     record {
-      after = sym (set-same ms at (c .if-marks-at .taken)) ∙ noted-at (c .args .p .0) ns ms at (c .pre .ordered) (f .1) (omega (arith, f .1, length-map xs nameIn, c .pre .room)) (f .2);
+      after = sym (set_same ms at c.if-marks-at.true) ∙ noted_at c.args.p.0 ns ms at c.requires.ordered f.1 (omega (arith, f.1, length-map xs name_in, c.requires.room)) f.2;
       added = sym (le-ltb (count ms) (count ms) (omega arith));
     }
 
-pub returns : need.returns
+pub returns : goal.returns
 returns c =
-    let xs = c .args .objects .now in
-    let ns = namesIn xs in
-    let ms = c .args .marks .now in
-    let at = c .in-Some .at in
-    let f = place-facts (c .args .p .0) ns at (c .pre .ordered) (c .in-Some .ensures tt .value) in
-    let l : at < length ms = omega (arith, f .1, length-map xs nameIn, c .pre .room) in
+    let xs = c.args.objects.now in
+    let ns = names_in xs in
+    let ms = c.args.marks.now in
+    let at = c.in-Some.at in
+    let f = place_facts c.args.p.0 ns at c.requires.ordered c.in-Some.ensures.value in
+    let l : at < length ms = omega (arith, f.1, length-map xs name_in, c.requires.room) in
     record {
-      after = noted-at (c .args .p .0) ns ms at (c .pre .ordered) (f .1) l (f .2);
-      added = sym (lt-ltb (count ms) (count (set ms at true)) (omega (arith, count-set ms at l (c .if-marks-at .left))));
+      after = noted_at c.args.p.0 ns ms at c.requires.ordered f.1 l f.2;
+      added = sym (lt-ltb (count ms) (count (set ms at true)) (omega (arith, count_set ms at l c.if-marks-at.false)));
     }

@@ -1,39 +1,32 @@
-use mathlib.Core.Path.{_≡_, sym, ap, _∙_}
-use mathlib.Core.List.{append-nil}
-use Prim.Native.Nat.{_≤_, _<_}
-use native.Mathlib.Omega.{arith}
-use borrow.Author.Tests.{ltb-true, ltb-false}
-use lib.ListN.{length}
-use Rattle·std.specs.declared.option.Option.the-variants.{Some}
-use Rattle·std.specs.Of.Vec.{vec-items}
-use Rattle·text·proofs.Hexes.{high-bad, low-bad, both, ends, odd}
-use Rattle·text·proofs.hex.read_hex.Needs as need
+use Rattle.std.proofs.Common.{◌≡◌, ◌<◌, ◌≤◌, length, Some, vec_items, sym, ap, ◌∙◌, append-nil, arith, ltb-false, ltb-true}
+use Rattle.text.proofs.Hexes.{high_bad, low_bad, both, ends, odd}
+use Rattle.text.proofs.hex.read_hex.Goals as goal
 
-pub returns-in-rest-digit-value : need.returns-in-rest-digit-value
-returns-in-rest-digit-value c =
-    let h : 2 ≤ length (c .loop-rest .rest .now) = omega (arith, ltb-false) in
-    sym (c .loop-rest .inv ∙ high-bad (vec-items (c .loop-rest .out)) (c .loop-rest .rest .now) h (sym (c .in-rest-digit-value .ensures tt .value)))
+pub returns-in-default-digit-value : goal.returns-in-default-digit-value
+returns-in-default-digit-value c =
+    let h : 2 ≤ length c.loop-rest.rest.now = omega (arith, ltb-false) in
+    sym (c.loop-rest.invariant ∙ high_bad (vec_items c.loop-rest.out) c.loop-rest.rest.now h (sym c.in-default-digit-value.ensures.value))
 
-pub returns-in-rest-digit-value-2 : need.returns-in-rest-digit-value-2
-returns-in-rest-digit-value-2 c =
-    let h : 2 ≤ length (c .loop-rest .rest .now) = omega (arith, ltb-false) in
+pub returns-in-default-digit-value-2 : goal.returns-in-default-digit-value-2
+returns-in-default-digit-value-2 c =
+    let h : 2 ≤ length c.loop-rest.rest.now = omega (arith, ltb-false) in
     sym
-    (c .loop-rest .inv
-    ∙ low-bad (vec-items (c .loop-rest .out)) (c .loop-rest .rest .now) h (c .in-Some .h) (sym (c .in-Some .ensures tt .value)) (sym (c .in-rest-digit-value-2 .ensures tt .value)))
+    (c.loop-rest.invariant
+    ∙ low_bad (vec_items c.loop-rest.out) c.loop-rest.rest.now h c.in-Some.h (sym c.in-Some.ensures.value) (sym c.in-default-digit-value-2.ensures.value))
 
-pub loop-rest-again : need.loop-rest-again
-loop-rest-again c =
-    let h : 2 ≤ length (c .loop-rest .rest .now) = omega (arith, ltb-false) in
-    c .loop-rest .inv
-    ∙ both (vec-items (c .loop-rest .out)) (c .loop-rest .rest .now) h (vec-items (c .push .last .self)) (c .in-Some .h) (c .in-Some-digit-value .l) (sym (c .in-Some .ensures tt .value))
-    (sym (c .in-Some-digit-value .ensures tt .value))
-    (c .in-Continue-push .ensures tt .items)
+pub loop-rest-preserved : goal.loop-rest-preserved
+loop-rest-preserved c =
+    let h : 2 ≤ length c.loop-rest.rest.now = omega (arith, ltb-false) in
+    c.loop-rest.invariant
+    ∙ both (vec_items c.loop-rest.out) c.loop-rest.rest.now h (vec_items c.push.new.self) c.in-Some.h c.in-Some-digit-value.l (sym c.in-Some.ensures.value)
+    (sym c.in-Some-digit-value.ensures.value)
+    c.in-ok-push.ensures.items
 
-pub returns-then-is-empty : need.returns-then-is-empty
+pub returns-then-is-empty : goal.returns-then-is-empty
 returns-then-is-empty c =
-    sym (c .loop-rest .inv ∙ ends (vec-items (c .loop-rest .out)) (c .loop-rest .rest .now) (sym (c .if-is-empty .ensures tt)) ∙ ap Some (append-nil (vec-items (c .loop-rest .out))))
+    sym (c.loop-rest.invariant ∙ ends (vec_items c.loop-rest.out) c.loop-rest.rest.now (sym c.if-is-empty.ensures) ∙ ap Some (append-nil (vec_items c.loop-rest.out)))
 
-pub returns-else-is-empty : need.returns-else-is-empty
+pub returns-else-is-empty : goal.returns-else-is-empty
 returns-else-is-empty c =
-    let h : length (c .loop-rest .rest .now) < 2 = omega (arith, ltb-true) in
-    sym (c .loop-rest .inv ∙ odd (vec-items (c .loop-rest .out)) (c .loop-rest .rest .now) h (sym (c .if-is-empty .ensures tt)))
+    let h : length c.loop-rest.rest.now < 2 = omega (arith, ltb-true) in
+    sym (c.loop-rest.invariant ∙ odd (vec_items c.loop-rest.out) c.loop-rest.rest.now h (sym c.if-is-empty.ensures))

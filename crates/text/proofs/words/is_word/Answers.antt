@@ -1,10 +1,9 @@
-use mathlib.Core.Path.{_≡_}
-use borrow.Author.Needs.{needs}
-use Rattle·std.specs.Orderings.{Decides}
-use Rattle·std.proofs.shelf.Equals.{sameBytes-decides, matches-decides}
-use Rattle·text·proofs.words.is_word.Needs as need
+use Rattle.std.proofs.Common.{◌≡◌, Decides, rules}
+use Rattle.std.proofs.lemmas.Slice.Eq.{bytes_eq-Decides, slice_eq-Decides}
+use Rattle.text.proofs.words.is_word.Goals as goal
+use Rattle.std.proofs.lemmas.Bool.Decides.{Decides-eqb}
 
-pub returns : need.returns
+pub returns : goal.returns
 returns c =
-    let same : Decides (c .eq .result) (c .args .word .now ≡ c .args .other .now) = matches-decides _ _ _ (c .eq .ensures) in
-    search (needs, sameBytes-decides)
+    let same : Decides c.eq.result (c.args.word.now ≡ c.args.other.now) = slice_eq-Decides Decides-eqb _ _ _ c.eq.ensures in
+    search (rules, bytes_eq-Decides)

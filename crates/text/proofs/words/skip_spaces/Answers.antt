@@ -1,22 +1,18 @@
-use mathlib.Core.Path.{_≡_, sym, _∙_}
-use Prim.Native.Nat.{_≤_, _<_}
-use lib.ListN.{length}
-use native.Mathlib.Omega.{arith}
-use borrow.Author.Tests.{ltb-true, ltb-false}
-use Rattle·text·proofs.Splits.{skipped-none, skipped-here, skipped-more}
-use Rattle·text·proofs.words.skip_spaces.Needs as need
+use Rattle.std.proofs.Common.{◌≡◌, ◌<◌, ◌≤◌, length, sym, ◌∙◌, arith, ltb-false, ltb-true}
+use Rattle.text.proofs.Splits.{skipped_none, skipped_here, skipped_more}
+use Rattle.text.proofs.words.skip_spaces.Goals as goal
 
-pub returns-then-not-is-space : need.returns-then-not-is-space
+pub returns-then-not-is-space : goal.returns-then-not-is-space
 returns-then-not-is-space c =
-    let h : 1 ≤ length (c .loop-rest .rest .now) = omega (arith, ltb-false) in
-    sym (c .loop-rest .inv ∙ skipped-here (c .loop-rest .rest .now) h (sym (c .if-not-is-space .ensures tt)))
+    let h : 1 ≤ length c.loop-rest.rest.now = omega (arith, ltb-false) in
+    sym (c.loop-rest.invariant ∙ skipped_here c.loop-rest.rest.now h (sym c.if-not-is-space.ensures))
 
-pub loop-rest-again : need.loop-rest-again
-loop-rest-again c =
-    let h : 1 ≤ length (c .loop-rest .rest .now) = omega (arith, ltb-false) in
-    c .loop-rest .inv ∙ skipped-more (c .loop-rest .rest .now) h (sym (c .if-not-is-space .ensures tt))
+pub loop-rest-preserved : goal.loop-rest-preserved
+loop-rest-preserved c =
+    let h : 1 ≤ length c.loop-rest.rest.now = omega (arith, ltb-false) in
+    c.loop-rest.invariant ∙ skipped_more c.loop-rest.rest.now h (sym c.if-not-is-space.ensures)
 
-pub returns : need.returns
+pub returns : goal.returns
 returns c =
-    let h : length (c .loop-rest .rest .now) < 1 = omega (arith, ltb-true) in
-    sym (c .loop-rest .inv ∙ skipped-none (c .loop-rest .rest .now) h)
+    let h : length c.loop-rest.rest.now < 1 = omega (arith, ltb-true) in
+    sym (c.loop-rest.invariant ∙ skipped_none c.loop-rest.rest.now h)

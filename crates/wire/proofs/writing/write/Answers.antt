@@ -1,39 +1,33 @@
-use mathlib.Core.Path.{_≡_, refl, sym, ap, _∙_}
-use mathlib.Core.Bool.{true}
-use mathlib.Core.List.{append-assoc, _++_}
-use native.Mathlib.Omega.{arith}
-use Rattle·std.specs.Of.Vec.{vec-items}
-use Rattle·std.specs.Results.{isOk}
-use Rattle·wire·specs.Format.{headOf}
-use borrow.Author.Needs.{needs}
-use Rattle·wire·proofs.Trips.{reads-back}
-use Rattle·wire·proofs.writing.write.Needs as need
+use Rattle.std.proofs.Common.{◌≡◌, true, ◌++◌, is_ok, vec_items, sym, refl, ap, ◌∙◌, append_assoc, arith, rules}
+use Rattle.wire.specs.Format.{head_of}
+use Rattle.wire.proofs.Trips.{reads_back}
+use Rattle.wire.proofs.writing.write.Goals as goal
 
 -- there is room for all once it is reserved, so the objects follow the head
-ok : (c : need.After-extend-from-slice) → isOk (c .extend-from-slice .result) ≡ true
+ok : (c : goal.After-extend-from-slice) → is_ok c.extend-from-slice.result ≡ true
 ok c =
-    let size = c .in-Some .ensures tt in
-    let reserved = c .in-Continue-reserve .ensures tt in
-    let written = c .in-Continue-write-head .ensures tt in
-    c .extend-from-slice .ensures .succeeds (omega arith)
+    let size = c.in-Some.ensures in
+    let reserved = c.in-ok-reserve.ensures in
+    let written = c.in-ok-write-head.ensures in
+    c.extend-from-slice.ensures.succeeds (omega arith)
 
-pub returns : need.returns
+pub returns : goal.returns
 returns c =
     record {
       bytes =
           rw (ok c)
-          (rw (ok c) at (c .extend-from-slice .ensures .items)
-          ∙ ap (λ xs. xs ++ c .args .objects .now) (c .in-Continue-write-head .ensures tt .bytes ∙ ap (λ xs. xs ++ headOf (c .args .message)) (c .in-Continue-reserve .ensures tt .items))
-          ∙ append-assoc (vec-items (c .args .out .now)) (headOf (c .args .message)) (c .args .objects .now));
+          (rw (ok c) at c.extend-from-slice.ensures.items
+          ∙ ap (λ xs. xs ++ c.args.objects.now) (c.in-ok-write-head.ensures.bytes ∙ ap (λ xs. xs ++ head_of c.args.message) c.in-ok-reserve.ensures.items)
+          ∙ append_assoc (vec_items c.args.out.now) (head_of c.args.message) c.args.objects.now);
       succeeds = λ h. ok c;
-      read-back = reads-back (c .args .message) (c .args .objects .now);
+      read_back = reads_back c.args.message c.args.objects.now;
     }
 
-pub returns-in-Break-reserve : need.returns-in-Break-reserve
-returns-in-Break-reserve c = record { bytes = search needs; succeeds = search needs; read-back = reads-back (c .args .message) (c .args .objects .now) }
+pub returns-in-err-reserve : goal.returns-in-err-reserve
+returns-in-err-reserve c = record { bytes = search rules; succeeds = search rules; read_back = reads_back c.args.message c.args.objects.now }
 
-pub returns-in-Break-write-head : need.returns-in-Break-write-head
-returns-in-Break-write-head c = record { bytes = search needs; succeeds = search needs; read-back = reads-back (c .args .message) (c .args .objects .now) }
+pub returns-in-err-write-head : goal.returns-in-err-write-head
+returns-in-err-write-head c = record { bytes = search rules; succeeds = search rules; read_back = reads_back c.args.message c.args.objects.now }
 
-pub returns-in-rest : need.returns-in-rest
-returns-in-rest c = record { bytes = search needs; succeeds = search needs; read-back = reads-back (c .args .message) (c .args .objects .now) }
+pub returns-in-default : goal.returns-in-default
+returns-in-default c = record { bytes = search rules; succeeds = search rules; read_back = reads_back c.args.message c.args.objects.now }

@@ -1,6 +1,6 @@
-use borrow.Author.Needs.{needs}
-use Rattle·census·proofs.Laws.{laws}
-use Rattle·census·proofs.standing.Standing.new.Needs as need
+use Rattle.std.proofs.Common.{rules}
+use Rattle.census.proofs.Laws.{laws}
+use Rattle.census.proofs.standing.Standing.new.Goals as goal
 
-pub returns : need.returns
-returns c = record { value = search needs; lawful = laws }
+pub returns : goal.returns
+returns c = record { value = search rules; lawful = laws }

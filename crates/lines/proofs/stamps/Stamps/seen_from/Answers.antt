@@ -1,8 +1,7 @@
-use mathlib.Core.Path.{sym, ap}
-use native.Mathlib.Omega.{arith}
-use Rattle·std.proofs.shelf.Lists.{getD-past}
-use Rattle·lines·specs.Stamping.{stamp}
-use Rattle·lines·proofs.stamps.Stamps.seen_from.Needs as need
+use Rattle.std.proofs.Common.{sym, ap, arith}
+use Rattle.std.proofs.lemmas.List.{get_or_past}
+use Rattle.lines.specs.Stamping.{stamp}
+use Rattle.lines.proofs.stamps.Stamps.seen_from.Goals as goal
 
-pub returns-then-house-ge16 : need.returns-then-house-ge16
-returns-then-house-ge16 c = ap stamp (sym (getD-past (c .args .self .now .seen) (c .args .house .0) 0 (omega arith)))
+pub returns-then-house-ge16 : goal.returns-then-house-ge16
+returns-then-house-ge16 c = ap stamp (sym (get_or_past c.args.self.now.seen c.args.house.0 0 (omega arith)))

@@ -1,13 +1,12 @@
-use mathlib.Core.Path.{sym, _∙_}
-use borrow.Author.Needs.{needs}
-use Rattle·lines·proofs.Places.{search-here, search-more, search-none}
-use Rattle·lines·proofs.table.Lines.find.Needs as need
+use Rattle.std.proofs.Common.{sym, ◌∙◌, rules}
+use Rattle.lines.proofs.Places.{search_here, search_more, search_none}
+use Rattle.lines.proofs.table.Lines.find.Goals as goal
 
-pub returns-then-is-at : need.returns-then-is-at
-returns-then-is-at c = record { place = sym (c .loop-i .inv ∙ search-here (c .args .object .0) (c .args .holder .0) _ (c .loop-i .i) (c .args .self .now .len) (c .loop-i-test .taken) (sym (c .if-is-at .ensures tt))); within = search needs }
+pub returns-then-is-at : goal.returns-then-is-at
+returns-then-is-at c = record { place = sym (c.loop-i.invariant ∙ search_here c.args.object.0 c.args.holder.0 _ c.loop-i.i c.args.self.now.len c.loop-i-test.true (sym c.if-is-at.ensures)); within = search rules }
 
-pub loop-i-again : need.loop-i-again
-loop-i-again c = c .loop-i .inv ∙ search-more (c .args .object .0) (c .args .holder .0) _ (c .loop-i .i) (c .args .self .now .len) (c .loop-i-test .taken) (sym (c .if-is-at .ensures tt))
+pub loop-i-preserved : goal.loop-i-preserved
+loop-i-preserved c = c.loop-i.invariant ∙ search_more c.args.object.0 c.args.holder.0 _ c.loop-i.i c.args.self.now.len c.loop-i-test.true (sym c.if-is-at.ensures)
 
-pub returns : need.returns
-returns c = record { place = sym (c .loop-i .inv ∙ search-none (c .args .object .0) (c .args .holder .0) _ (c .loop-i .i) (c .args .self .now .len) (c .loop-i-test .left)); within = tt }
+pub returns : goal.returns
+returns c = record { place = sym (c.loop-i.invariant ∙ search_none c.args.object.0 c.args.holder.0 _ c.loop-i.i c.args.self.now.len c.loop-i-test.false); within = tt }

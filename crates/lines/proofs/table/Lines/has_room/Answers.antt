@@ -1,28 +1,24 @@
-use mathlib.Core.Path.{_≡_, refl, sym, ap, _∙_}
-use mathlib.Core.Bool.{Bool, true, false, _||_}
-use lib.Dec.{ltb}
-use lib.ListN.{length}
-use Rattle·std.specs.Options.{isSome}
-use Rattle·std.proofs.shelf.Tests.{lt-ltb, le-ltb, or-right}
-use Rattle·lines·specs.Listed.{listed}
-use Rattle·lines·specs.Lists.{lines}
-use Rattle·lines·proofs.Rows.{length-rows}
-use Rattle·lines·proofs.Places.{listed-place}
-use Rattle·lines·proofs.table.Lines.has_room.Needs as need
+use Rattle.std.proofs.Common.{◌≡◌, Bool, true, false, ◌||◌, ltb, length, is_some, sym, refl, ap, ◌∙◌}
+use Rattle.std.proofs.lemmas.Bool.{lt-ltb, le-ltb, or_right}
+use Rattle.lines.specs.Listed.{listed}
+use Rattle.lines.specs.Lists.{lines}
+use Rattle.lines.proofs.Rows.{length_rows}
+use Rattle.lines.proofs.Places.{listed_place}
+use Rattle.lines.proofs.table.Lines.has_room.Goals as goal
 
-or-false : (b : Bool) → (b || false) ≡ b
-or-false true = refl
-or-false false = refl
+or_false : (b : Bool) → (b || false) ≡ b
+or_false true = refl
+or_false false = refl
 
-pub returns-then-self : need.returns-then-self
+pub returns-then-self : goal.returns-then-self
 returns-then-self c =
-    let t = c .args .self .now in
-    lt-ltb (t .len) (t .room) (c .if-self .taken) ∙ sym (or-right _ _ (lt-ltb (length (lines t)) (t .room) (rw length-rows (c .if-self .taken))))
+    let t = c.args.self.now in
+    lt-ltb t.len t.room c.if-self.true ∙ sym (or_right _ _ (lt-ltb (length (lines t)) t.room (rw length_rows c.if-self.true)))
 
-pub returns-else-self : need.returns-else-self
+pub returns-else-self : goal.returns-else-self
 returns-else-self c =
-    let t = c .args .self .now in
-    let o = c .args .object .0 in
-    let j = c .args .holder .0 in
-    let full : ltb (length (lines t)) (t .room) ≡ false = le-ltb (length (lines t)) (t .room) (rw length-rows (c .if-self .left)) in
-    c .is-some .ensures ∙ ap isSome (c .find .ensures .place) ∙ listed-place o j 0 (lines t) ∙ sym (or-false (listed o j (lines t))) ∙ ap (λ b. listed o j (lines t) || b) (sym full)
+    let t = c.args.self.now in
+    let o = c.args.object.0 in
+    let j = c.args.holder.0 in
+    let full : ltb (length (lines t)) t.room ≡ false = le-ltb (length (lines t)) t.room (rw length_rows c.if-self.false) in
+    c.is-some.ensures ∙ ap is_some c.find.ensures.place ∙ listed_place o j 0 (lines t) ∙ sym (or_false (listed o j (lines t))) ∙ ap (λ b. listed o j (lines t) || b) (sym full)

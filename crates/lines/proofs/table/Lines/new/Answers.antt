@@ -1,8 +1,7 @@
-use mathlib.Core.Path.{refl}
-use borrow.Author.Needs.{needs}
-use Rattle·lines·specs.Columns.{rows}
-use Rattle·lines·proofs.table.Lines.new.Needs as need
+use Rattle.std.proofs.Common.{refl, rules}
+use Rattle.lines.specs.Columns.{rows}
+use Rattle.lines.proofs.table.Lines.new.Goals as goal
 
-pub returns : need.returns
+pub returns : goal.returns
 unfolding rows
-returns c = record { empty = refl; len = refl; room = search needs; home = refl; houses = search needs }
+returns c = record { empty = refl; len = refl; room = search rules; home = refl; houses = search rules }

@@ -1,39 +1,37 @@
-use mathlib.Core.Path.{_≡_, ap}
-use Prim.Native.Nat.{_-_}
-use native.Mathlib.Omega.{arith}
-use Rattle·lines·specs.Listed.{objectsIn}
-use Rattle·lines·specs.Columns.{rows}
-use Rattle·lines·specs.Lists.{rowOf}
-use Rattle·lines·proofs.Gathering.{gathering-none, gathering-more, gathering-same, gathering-all, in-more, in-other, in-none}
-use Rattle·lines·proofs.table.Lines.objects_in.Needs as need
-use Rattle·lines·proofs.table.Lines.objects_in.Needs.{then-self-i, else-self-i}
+use Rattle.std.proofs.Common.{◌≡◌, ◌-◌, ap, arith}
+use Rattle.lines.specs.Listed.{objects_in}
+use Rattle.lines.specs.Columns.{rows}
+use Rattle.lines.specs.Lists.{row_of}
+use Rattle.lines.proofs.Gathering.{gathering_none, gathering_more, gathering_same, gathering_all, in_more, in_other, in_none}
+use Rattle.lines.proofs.table.Lines.objects_in.Goals as goal
+use Rattle.lines.proofs.table.Lines.objects_in.Goals.{then-self-i, else-self-i}
 
-pub loop-i-holds : need.loop-i-holds
-loop-i-holds c =
-    let t = c .args .self .now in
-    let z : t .len ≡ t .len - 0 = omega arith in
-    (omega arith, gathering-none _ _ _ (c .told-into) (ap (λ n. objectsIn (c .args .census .0) (rows (rowOf t) 0 n)) z))
+pub loop-i-init : goal.loop-i-init
+loop-i-init c =
+    let t = c.args.self.now in
+    let z : t.len ≡ t.len - 0 = omega arith in
+    (omega arith, gathering_none _ _ _ c.told-into (ap (λ n. objects_in c.args.census.0 (rows (row_of t) 0 n)) z))
 
-pub loop-i-again : need.loop-i-again
-loop-i-again c =
-    let t = c .args .self .now in
-    let i = c .loop-i .i in
-    let h = c .loop-i-test .taken in
-    elim (c .if-self-i .came) [
+pub loop-i-preserved : goal.loop-i-preserved
+loop-i-preserved c =
+    let t = c.args.self.now in
+    let i = c.loop-i.i in
+    let h = c.loop-i-test.true in
+    elim c.if-self-i.branch [
       | then-self-i w ↦ (
-        omega (arith, w .count-is, c .loop-i .inv .0),
-        rw (w .into-is, w .count-is) (gathering-more _ _ _ _ _ _ (c .loop-i .inv .1) (omega (arith, t .most, t .within, c .loop-i .inv .0)) (in-more (rowOf t) i (t .len) (c .args .census .0) h (w .if-self-i .taken))),
+        omega (arith, w.count-is, c.loop-i.invariant.0),
+        rw (w.into-is, w.count-is) (gathering_more _ _ _ _ _ _ c.loop-i.invariant.1 (omega (arith, t.most, t.within, c.loop-i.invariant.0)) (in_more (row_of t) i t.len c.args.census.0 h w.if-self-i.true)),
       )
       | else-self-i w ↦ (
-        omega (arith, w .count-is, c .loop-i .inv .0),
-        rw (w .into-is, w .count-is) (gathering-same _ _ _ _ _ (c .loop-i .inv .1) (in-other (rowOf t) i (t .len) (c .args .census .0) h (w .if-self-i .left))),
+        omega (arith, w.count-is, c.loop-i.invariant.0),
+        rw (w.into-is, w.count-is) (gathering_same _ _ _ _ _ c.loop-i.invariant.1 (in_other (row_of t) i t.len c.args.census.0 h w.if-self-i.false)),
       )
     ]
 
-pub returns : need.returns
+pub returns : goal.returns
 returns c =
-    let t = c .args .self .now in
+    let t = c.args.self.now in
     record {
-      within = omega (arith, t .most, t .within, c .loop-i .inv .0, c .loop-i .kept .i-end);
-      after = gathering-all _ _ _ _ (c .loop-i .inv .1) (in-none (rowOf t) (c .loop-i .i) (t .len) (c .args .census .0) (c .loop-i-test .left));
+      within = omega (arith, t.most, t.within, c.loop-i.invariant.0, c.loop-i.auto.i-end);
+      after = gathering_all _ _ _ _ c.loop-i.invariant.1 (in_none (row_of t) c.loop-i.i t.len c.args.census.0 c.loop-i-test.false);
     }

@@ -1,40 +1,40 @@
-use mathlib.Core.Path.{_≡_, refl, sym, ap, subst, _∙_}
-use Rattle·lines·specs.Laws.{LeavesUnheard}
-use Rattle·lines·specs.Listed.{swept}
-use Rattle·lines·specs.Lists.{lines, listing}
-use Rattle·lines·proofs.Laws.{leaves-unheard}
-use Rattle·lines·proofs.Closing.{turn-none, turn-gone, turn-kept, turn-ready, turn-all, swept-closed}
-use Rattle·lines·proofs.table.Lines.sweep.Needs as need
-use Rattle·lines·proofs.table.Lines.sweep.Needs.{then-not-is-other, else-not-is-other}
+use Rattle.std.proofs.Common.{◌≡◌, sym, refl, ap, ◌∙◌, subst}
+use Rattle.lines.specs.Laws.{LeavesUnheard}
+use Rattle.lines.specs.Listed.{swept}
+use Rattle.lines.specs.Lists.{lines, listing}
+use Rattle.lines.proofs.Laws.{leaves_unheard}
+use Rattle.lines.proofs.Closing.{turn_none, turn_gone, turn_kept, turn_ready, turn_all, swept_closed}
+use Rattle.lines.proofs.table.Lines.sweep.Goals as goal
+use Rattle.lines.proofs.table.Lines.sweep.Goals.{then-not-is-other, else-not-is-other}
 
-pub loop-i-holds : need.loop-i-holds
-loop-i-holds c = turn-none refl
+pub loop-i-init : goal.loop-i-init
+loop-i-init c = turn_none refl
 
-pub loop-i-again : need.loop-i-again
-loop-i-again c =
-    let a = c .args .self .now in
-    let e = listing (c .row-line .result) in
-    elim (c .if-not-is-other .came) [
+pub loop-i-preserved : goal.loop-i-preserved
+loop-i-preserved c =
+    let a = c.args.self.now in
+    let e = listing c.row-line.result in
+    elim c.if-not-is-other.branch [
       | then-not-is-other w ↦
-          turn-kept (c .loop-i .inv) (c .loop-i-test .taken) e (ap listing (c .row-line .ensures)) _ _ (w .self-is) (w .push .ensures .pushed) (w .push .ensures .lent) (a .within) (a .alone)
-          (w .if-not-is-other .ensures tt)
+          turn_kept c.loop-i.invariant c.loop-i-test.true e (ap listing c.row-line.ensures) _ _ w.self-is w.push.ensures.pushed w.push.ensures.lent a.within a.alone
+          w.if-not-is-other.ensures
       | else-not-is-other w ↦
-          turn-gone (c .loop-i .inv) (c .loop-i-test .taken) e (ap listing (c .row-line .ensures)) _ (w .self-is)
-          (w .if-not-is-other .ensures tt)
+          turn_gone c.loop-i.invariant c.loop-i-test.true e (ap listing c.row-line.ensures) _ w.self-is
+          w.if-not-is-other.ensures
     ]
 
-pub push-requires : need.push-requires
-push-requires c κs =
-    let a = c .args .self .now in
-    turn-ready (c .loop-i .inv) (c .loop-i-test .taken) (listing (c .row-line .result)) (ap listing (c .row-line .ensures)) (a .within) (a .own) (a .far)
+pub push-requires : goal.push-requires
+push-requires c =
+    let a = c.args.self.now in
+    turn_ready c.loop-i.invariant c.loop-i-test.true (listing c.row-line.result) (ap listing c.row-line.ensures) a.within a.own a.far
 
-pub returns : need.returns
+pub returns : goal.returns
 returns c =
-    let l = c .loop-i .inv .lent in
-    let es = lines (c .args .self .now) in
-    let e : lines (c .loop-i .self) ≡ swept (c .args .census .0) es = turn-all (c .loop-i .inv) (c .loop-i-test .left) ∙ swept-closed (c .args .census .0) es in
+    let l = c.loop-i.invariant.lent in
+    let es = lines c.args.self.now in
+    let e : lines c.loop-i.self ≡ swept c.args.census.0 es = turn_all c.loop-i.invariant c.loop-i-test.false ∙ swept_closed c.args.census.0 es in
     record {
       after = e;
-      leaves = subst (λ fs. LeavesUnheard (c .args .census .0) es fs) (sym e) (leaves-unheard (c .args .census .0) es);
-      lent = record { objects = l .objects; holders = l .holders; stamps = l .stamps; censuses = l .censuses; objects-long = l .objects-long; holders-long = l .holders-long; stamps-long = l .stamps-long; censuses-long = l .censuses-long; room = l .room; home = l .home; houses = l .houses };
+      leaves = subst (λ fs. LeavesUnheard c.args.census.0 es fs) (sym e) (leaves_unheard c.args.census.0 es);
+      lent = record { objects = l.objects; holders = l.holders; stamps = l.stamps; censuses = l.censuses; objects_long = l.objects_long; holders_long = l.holders_long; stamps_long = l.stamps_long; censuses_long = l.censuses_long; room = l.room; home = l.home; houses = l.houses };
     }

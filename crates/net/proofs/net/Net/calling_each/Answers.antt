@@ -1,7 +1,7 @@
-use Rattle·play.specs.Settle.{calling}
-use Rattle·net·proofs.SettlingParts.{along-each}
-use Rattle·net·proofs.net.Net.calling_each.Needs as need
+use Rattle.play.specs.Settle.{calling}
+use Rattle.net.proofs.SettlingParts.{along_each}
+use Rattle.net.proofs.net.Net.calling_each.Goals as goal
 
-pub loop-at-again : need.loop-at-again
-loop-at-again c =
-    along-each (λ n i v. calling n i (c .args .call) v) (c .loop-at .at) (c .calling .result) (c .args .self .now) (c .loop-at .self) (c .calling .last .self) (c .loop-at .inv) (c .if-not-calling .left) (c .calling .ensures)
+pub loop-at-preserved : goal.loop-at-preserved
+loop-at-preserved c =
+    along_each (λ n i v. calling n i c.args.call v) c.loop-at.at c.calling.result c.args.self.now c.loop-at.self c.calling.new.self c.loop-at.invariant c.if-not-calling.false c.calling.ensures

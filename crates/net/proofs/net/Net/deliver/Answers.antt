@@ -1,46 +1,44 @@
-use mathlib.Core.Path.{refl, sym, _∙_, subst}
-use mathlib.Core.List.{List}
-use Prim.Native.Nat.{ℕ, _<_, _≤_}
-use Rattle·rules.specs.Step.{came}
-use Rattle·play.specs.Play.{delivers}
-use Rattle·net·specs.Nets.{world, count}
-use Rattle·net·proofs.Entered.{Is, turned, is-delivery, no-receiver, no-message, promised, message-is, so-many, within, beyond}
-use Rattle·net·proofs.net.Net.deliver.Needs as need
+use Rattle.std.proofs.Common.{ℕ, ◌<◌, ◌≤◌, List, sym, refl, ◌∙◌, subst}
+use Rattle.rules.specs.Step.{came}
+use Rattle.play.specs.Play.{delivers}
+use Rattle.net.specs.Nets.{world, count}
+use Rattle.net.proofs.Entered.{Is, turned, is_delivery, no_receiver, no_message, promised, message_is, so_many, within, beyond}
+use Rattle.net.proofs.net.Net.deliver.Goals as goal
 
-pub returns-then-i-len : need.returns-then-i-len
+pub returns-then-i-len : goal.returns-then-i-len
 returns-then-i-len c =
-    let s = c .args .self .now in
+    let s = c.args.self.now in
     record {
-      plays = no-receiver (count s) (c .args .house .0) (c .args .message) (world s) (beyond (s .houses) (c .len .ensures) (c .if-i-len .taken));
+      plays = no_receiver (count s) c.args.house.0 c.args.message (world s) (beyond s.houses c.len.ensures c.if-i-len.true);
       faithful = refl;
       count = refl;
-      promise = promised (count s) (world s) (s .faithful) (s .some) (s .few) (s .reached);
+      promise = promised (count s) (world s) s.faithful s.some s.few s.reached;
     }
 
-pub returns-then-message-len : need.returns-then-message-len
+pub returns-then-message-len : goal.returns-then-message-len
 returns-then-message-len c =
-    let s = c .args .self .now in
+    let s = c.args.self.now in
     record {
-      plays = no-message (count s) (c .args .house .0) (c .args .message) (world s) (subst (λ (k : ℕ). k ≤ c .args .message) (c .len-2 .ensures ∙ sym (so-many (s .sent))) (c .if-message-len .taken));
+      plays = no_message (count s) c.args.house.0 c.args.message (world s) (subst (λ (k : ℕ). k ≤ c.args.message) (c.len-2.ensures ∙ sym (so_many s.sent)) c.if-message-len.true);
       faithful = refl;
       count = refl;
-      promise = promised (count s) (world s) (s .faithful) (s .some) (s .few) (s .reached);
+      promise = promised (count s) (world s) s.faithful s.some s.few s.reached;
     }
 
-pub ghost-self-2 : need.ghost-self-2
-ghost-self-2 c =
-    let s = c .args .self .now in
-    let z = turned (s .houses) (c .deref-mut .result .now) (c .got-at-answer .last .houses) (c .deref-mut .ensures .value) (c .got-at-answer .ensures .long) (c .args .house .0) (came (c .deref .result .now)) (delivers (c .args .house .0) (c .args .message)) (s .sent) (c .keep-played .last .sent) (c .keep-played .result) (c .got-at-answer .result) (s .faithful) (c .still-self .result)
-    (subst (λ (bs : List ℕ). Is (count s) (delivers (c .args .house .0) (c .args .message)) (c .args .house .0) (came bs) (world s)) (message-is (s .sent) (c .args .message) (c .index .result .now) (c .deref .result .now) (within (s .sent) (c .len-2 .ensures) (c .if-message-len .left)) (c .index .ensures) (c .deref .ensures .value))
-    (is-delivery (count s) (c .args .house .0) (c .args .message) (world s) (within (s .houses) (c .len .ensures) (c .if-i-len .left)) (subst (λ (k : ℕ). c .args .message < k) (c .len-2 .ensures ∙ sym (so-many (s .sent))) (c .if-message-len .left))))
-    (c .got-at-answer .ensures .others) (c .got-at-answer .ensures .does) (c .keep-played .ensures) (c .still-self .ensures) (s .some) (s .few) (s .reached) in
-    (z .some, (z .few, (z .reached, tt)))
+pub invariant-of-self-2 : goal.invariant-of-self-2
+invariant-of-self-2 c =
+    let s = c.args.self.now in
+    let z = turned s.houses c.deref-mut.result.now c.got-at-answer.new.houses c.deref-mut.ensures.value c.got-at-answer.ensures.long c.args.house.0 (came c.deref.result.now) (delivers c.args.house.0 c.args.message) s.sent c.keep-played.new.sent c.keep-played.result c.got-at-answer.result s.faithful c.still-self.result
+    (subst (λ (bs : List ℕ). Is (count s) (delivers c.args.house.0 c.args.message) c.args.house.0 (came bs) (world s)) (message_is s.sent c.args.message c.index.result.now c.deref.result.now (within s.sent c.len-2.ensures c.if-message-len.false) c.index.ensures c.deref.ensures.value)
+    (is_delivery (count s) c.args.house.0 c.args.message (world s) (within s.houses c.len.ensures c.if-i-len.false) (subst (λ (k : ℕ). c.args.message < k) (c.len-2.ensures ∙ sym (so_many s.sent)) c.if-message-len.false)))
+    c.got-at-answer.ensures.others c.got-at-answer.ensures.does c.keep-played.ensures c.still-self.ensures s.some s.few s.reached in
+    (z.some, (z.few, (z.reached, tt)))
 
-pub returns : need.returns
+pub returns : goal.returns
 returns c =
-    let s = c .args .self .now in
-    let z = turned (s .houses) (c .deref-mut .result .now) (c .got-at-answer .last .houses) (c .deref-mut .ensures .value) (c .got-at-answer .ensures .long) (c .args .house .0) (came (c .deref .result .now)) (delivers (c .args .house .0) (c .args .message)) (s .sent) (c .keep-played .last .sent) (c .keep-played .result) (c .got-at-answer .result) (s .faithful) (c .still-self .result)
-    (subst (λ (bs : List ℕ). Is (count s) (delivers (c .args .house .0) (c .args .message)) (c .args .house .0) (came bs) (world s)) (message-is (s .sent) (c .args .message) (c .index .result .now) (c .deref .result .now) (within (s .sent) (c .len-2 .ensures) (c .if-message-len .left)) (c .index .ensures) (c .deref .ensures .value))
-    (is-delivery (count s) (c .args .house .0) (c .args .message) (world s) (within (s .houses) (c .len .ensures) (c .if-i-len .left)) (subst (λ (k : ℕ). c .args .message < k) (c .len-2 .ensures ∙ sym (so-many (s .sent))) (c .if-message-len .left))))
-    (c .got-at-answer .ensures .others) (c .got-at-answer .ensures .does) (c .keep-played .ensures) (c .still-self .ensures) (s .some) (s .few) (s .reached) in
-    record { plays = z .plays; faithful = c .still-self .ensures; count = z .same; promise = z .safe }
+    let s = c.args.self.now in
+    let z = turned s.houses c.deref-mut.result.now c.got-at-answer.new.houses c.deref-mut.ensures.value c.got-at-answer.ensures.long c.args.house.0 (came c.deref.result.now) (delivers c.args.house.0 c.args.message) s.sent c.keep-played.new.sent c.keep-played.result c.got-at-answer.result s.faithful c.still-self.result
+    (subst (λ (bs : List ℕ). Is (count s) (delivers c.args.house.0 c.args.message) c.args.house.0 (came bs) (world s)) (message_is s.sent c.args.message c.index.result.now c.deref.result.now (within s.sent c.len-2.ensures c.if-message-len.false) c.index.ensures c.deref.ensures.value)
+    (is_delivery (count s) c.args.house.0 c.args.message (world s) (within s.houses c.len.ensures c.if-i-len.false) (subst (λ (k : ℕ). c.args.message < k) (c.len-2.ensures ∙ sym (so_many s.sent)) c.if-message-len.false)))
+    c.got-at-answer.ensures.others c.got-at-answer.ensures.does c.keep-played.ensures c.still-self.ensures s.some s.few s.reached in
+    record { plays = z.plays; faithful = c.still-self.ensures; count = z.same; promise = z.safe }

@@ -1,5 +1,5 @@
-use Rattle·net·proofs.SettlingParts.{along-below}
-use Rattle·net·proofs.net.Net.deliver_each.Needs as need
+use Rattle.net.proofs.SettlingParts.{along_below}
+use Rattle.net.proofs.net.Net.deliver_each.Goals as goal
 
-pub loop-to-again : need.loop-to-again
-loop-to-again c = along-below (c .args .message) (c .loop-to .to) (c .delivers .result) (c .args .self .now) (c .loop-to .self) (c .delivers .last .self) (c .loop-to .inv) (c .if-not-delivers .left) (c .delivers .ensures)
+pub loop-to-preserved : goal.loop-to-preserved
+loop-to-preserved c = along_below c.args.message c.loop-to.to c.delivers.result c.args.self.now c.loop-to.self c.delivers.new.self c.loop-to.invariant c.if-not-delivers.false c.delivers.ensures

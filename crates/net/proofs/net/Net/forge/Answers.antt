@@ -1,27 +1,25 @@
-use mathlib.Core.Path.{_≡_, refl, sym, subst}
-use Prim.Native.Nat.{ℕ, _<_, _≤_}
-use native.Mathlib.Omega.{arith}
-use Rattle·std.proofs.shelf.Tests.{false≢true}
-use Rattle·rules.specs.Step.{came}
-use Rattle·net·specs.Nets.{world, count}
-use Rattle·net·proofs.Entered.{forged, count-same, within, beyond, apart}
-use Rattle·net·proofs.net.Net.forge.Needs as need
+use Rattle.std.proofs.Common.{◌≡◌, ℕ, ◌<◌, ◌≤◌, sym, refl, subst, arith}
+use Rattle.std.proofs.lemmas.Bool.{false≢true}
+use Rattle.rules.specs.Step.{came}
+use Rattle.net.specs.Nets.{world, count}
+use Rattle.net.proofs.Entered.{forged, count_same, within, beyond, apart}
+use Rattle.net.proofs.net.Net.forge.Goals as goal
 
-pub ghost-self-2 : need.ghost-self-2
-ghost-self-2 c =
-    let s = c .args .self .now in
-    let e = count-same (s .houses) (c .deref-mut .result .now) (c .got-at-answer .last .houses) (c .deref-mut .ensures .value) (c .got-at-answer .ensures .long) in
-    (subst (λ (k : ℕ). 0 < k) (sym e) (s .some), (subst (λ (k : ℕ). k ≤ 16) (sym e) (s .few), (λ f. absurd (false≢true f), tt)))
+pub invariant-of-self-2 : goal.invariant-of-self-2
+invariant-of-self-2 c =
+    let s = c.args.self.now in
+    let e = count_same s.houses c.deref-mut.result.now c.got-at-answer.new.houses c.deref-mut.ensures.value c.got-at-answer.ensures.long in
+    (subst (λ (k : ℕ). 0 < k) (sym e) s.some, (subst (λ (k : ℕ). k ≤ 16) (sym e) s.few, (λ f. absurd (false≢true f), tt)))
 
-pub returns : need.returns
+pub returns : goal.returns
 returns c =
-    let s = c .args .self .now in
-    let lt = within (s .houses) (c .len .ensures) (c .if-i-len .left) in
+    let s = c.args.self.now in
+    let lt = within s.houses c.len.ensures c.if-i-len.false in
     record {
       faithful = refl;
-      count = count-same (s .houses) (c .deref-mut .result .now) (c .got-at-answer .last .houses) (c .deref-mut .ensures .value) (c .got-at-answer .ensures .long);
+      count = count_same s.houses c.deref-mut.result.now c.got-at-answer.new.houses c.deref-mut.ensures.value c.got-at-answer.ensures.long;
       acts = (
-        λ _. forged (s .houses) (c .deref-mut .result .now) (c .got-at-answer .last .houses) (c .deref-mut .ensures .value) (c .got-at-answer .ensures .long) (c .args .house .0) (came (c .args .bytes .now)) (s .sent) (c .keep .last .sent) (c .keep .result) (c .got-at-answer .result) (c .got-at-answer .ensures .others) (c .got-at-answer .ensures .does) (c .keep .ensures),
+        λ _. forged s.houses c.deref-mut.result.now c.got-at-answer.new.houses c.deref-mut.ensures.value c.got-at-answer.ensures.long c.args.house.0 (came c.args.bytes.now) s.sent c.keep.new.sent c.keep.result c.got-at-answer.result c.got-at-answer.ensures.others c.got-at-answer.ensures.does c.keep.ensures,
         λ le. absurd (apart lt le),
       );
     }

@@ -1,6 +1,6 @@
-use Rattle·net·proofs.SettlingWhole.{above-in, along-joins}
-use Rattle·net·proofs.net.Net.join_all.Needs as need
+use Rattle.net.proofs.SettlingWhole.{above_in, along_joins}
+use Rattle.net.proofs.net.Net.join_all.Goals as goal
 
-pub returns : need.returns
+pub returns : goal.returns
 returns c =
-    along-joins (c .calling-each .result) (c .above-census .result) (c .args .self .now) (c .calling-each .last .self) (above-in (c .above-census .result) (c .args .self .now) (c .deref .result .now) (c .deref .ensures .value) (c .above-census .ensures)) (c .calling-each .ensures)
+    along_joins c.calling-each.result c.above-census.result c.args.self.now c.calling-each.new.self (above_in c.above-census.result c.args.self.now c.deref.result.now c.deref.ensures.value c.above-census.ensures) c.calling-each.ensures

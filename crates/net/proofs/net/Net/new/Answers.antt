@@ -1,64 +1,58 @@
-use mathlib.Core.Path.{_≡_, refl, _∙_, ap, sym, subst}
-use mathlib.Core.List.{List, [], map}
-use Prim.Native.Nat.{ℕ, _<_, _≤_}
-use native.Mathlib.Omega.{arith}
-use lib.Dec.{eqb, ltb}
-use Rattle·std.proofs.shelf.Tests.{or-left, or-right, or-from, eq-eqb, ne-eqb, lt-ltb, le-ltb}
-use Rattle·std.specs.Of.Vec.{vec-items}
-use Rattle·std.specs.declared.vec.Vec.{Vec}
-use Rattle·std.specs.declared.alloc.Global.{Global}
-use Rattle·store.specs.Sending.{itemsIn}
-use Rattle·play.specs.Play.{World, Reach, begin, start}
-use Rattle·net·specs.Worlds.{worldOf}
-use Rattle·net·specs.Laws.{Lawful}
-use Rattle·play.proofs.Promise.{always-safe}
-use Rattle·play.proofs.Exactness.{always-settles, always-left}
-use Rattle·play.proofs.Bounds.{bounded, few-passes, few-lines}
-use Rattle·play.proofs.BoundCalls.{two-rounds}
-use Rattle·play.proofs.Cases.{all-cases, goes-on}
-use Rattle·rules.proofs.Sound.{sound-step}
-use Rattle·promise.proofs.Needed.{stirred-needed}
-use Rattle·net·proofs.Rows.{row-count, row-begins}
-use Rattle·net·proofs.net.Net.new.Needs as need
+use Rattle.std.proofs.Common.{◌≡◌, ℕ, ◌<◌, ◌≤◌, eqb, ltb, List, [], map, vec_items, Vec, sym, refl, ap, ◌∙◌, subst, arith}
+use Rattle.std.proofs.lemmas.Bool.{or_left, or_right, or_from, eq-eqb, ne_eqb, lt-ltb, le-ltb}
+use Rattle.std.specs.declared.alloc.Global.{Global}
+use Rattle.store.specs.Sending.{items_in}
+use Rattle.play.specs.Play.{World, Reach, begin, start}
+use Rattle.net.specs.Worlds.{world_of}
+use Rattle.net.specs.Laws.{Lawful}
+use Rattle.play.proofs.Promise.{always_safe}
+use Rattle.play.proofs.Exactness.{always_settles, always_left}
+use Rattle.play.proofs.Bounds.{bounded, few_passes, few_lines}
+use Rattle.play.proofs.BoundCalls.{two_rounds}
+use Rattle.play.proofs.Cases.{all_cases, goes_on}
+use Rattle.rules.proofs.Sound.{sound_step}
+use Rattle.promise.proofs.Needed.{stirred_needed}
+use Rattle.net.proofs.Rows.{row_count, row_begins}
+use Rattle.net.proofs.net.Net.new.Goals as goal
 
 lawful : Lawful
 lawful =
     record {
-      safe = always-safe;
-      settles = always-settles;
+      safe = always_safe;
+      settles = always_settles;
       bounded = bounded;
-      rounds = two-rounds;
-      passes = few-passes;
-      lines = few-lines;
-      left = always-left;
-      cases = all-cases;
-      goes-on = goes-on;
-      sound = sound-step;
-      needed = stirred-needed;
+      rounds = two_rounds;
+      passes = few_passes;
+      lines = few_lines;
+      left = always_left;
+      cases = all_cases;
+      goes_on = goes_on;
+      sound = sound_step;
+      needed = stirred_needed;
     }
 
-begins : (c : need.After-new) → worldOf (vec-items (c .in-Ok .houses)) (map itemsIn (vec-items (c .new .result))) ≡ begin (c .args .count)
-begins c = ap (λ (xs : List (Vec ℕ Global)). worldOf (vec-items (c .in-Ok .houses)) (map itemsIn xs)) (c .new .ensures .items) ∙ row-begins (c .args .count) (vec-items (c .in-Ok .houses)) (c .in-Ok .ensures tt)
+begins : (c : goal.After-new) → world_of (vec_items c.in-Ok.houses) (map items_in (vec_items c.new.result)) ≡ begin c.args.count
+begins c = ap (λ (xs : List (Vec ℕ Global)). world_of (vec_items c.in-Ok.houses) (map items_in xs)) c.new.ensures.items ∙ row_begins c.args.count (vec_items c.in-Ok.houses) c.in-Ok.ensures
 
 above : {a : ℕ} → (a ≡ 0 → ⊥) → 0 < a
 above p = omega arith
 
-pub ghost-result : need.ghost-result
-ghost-result c =
-    let e = row-count (c .args .count) (vec-items (c .in-Ok .houses)) (c .in-Ok .ensures tt) in
-    (subst (λ (k : ℕ). 0 < k) (sym e) (above (c .if-count-eq0 .left)), (subst (λ (k : ℕ). k ≤ 16) (sym e) (c .if-count-gt16 .left), (λ _. ∣ subst (λ (k : ℕ). Reach k (worldOf (vec-items (c .in-Ok .houses)) (map itemsIn (vec-items (c .new .result))))) (sym e) (subst (Reach (c .args .count)) (sym (begins c)) start) ∣₁, tt)))
+pub invariant-of-result : goal.invariant-of-result
+invariant-of-result c =
+    let e = row_count c.args.count (vec_items c.in-Ok.houses) c.in-Ok.ensures in
+    (subst (λ (k : ℕ). 0 < k) (sym e) (above c.if-count-eq0.false), (subst (λ (k : ℕ). k ≤ 16) (sym e) c.if-count-gt16.false, (λ _. ∣ subst (λ (k : ℕ). Reach k (world_of (vec_items c.in-Ok.houses) (map items_in (vec_items c.new.result)))) (sym e) (subst (Reach c.args.count) (sym (begins c)) start) ∣₁, tt)))
 
-pub returns-in-Ok : need.returns-in-Ok
+pub returns-in-Ok : goal.returns-in-Ok
 returns-in-Ok c =
-    let e = row-count (c .args .count) (vec-items (c .in-Ok .houses)) (c .in-Ok .ensures tt) in
-    let b = ap (λ (xs : List (Vec ℕ Global)). worldOf (vec-items (c .in-Ok .houses)) (map itemsIn xs)) (c .new .ensures .items) ∙ row-begins (c .args .count) (vec-items (c .in-Ok .houses)) (c .in-Ok .ensures tt) in
+    let e = row_count c.args.count (vec_items c.in-Ok.houses) c.in-Ok.ensures in
+    let b = ap (λ (xs : List (Vec ℕ Global)). world_of (vec_items c.in-Ok.houses) (map items_in xs)) c.new.ensures.items ∙ row_begins c.args.count (vec_items c.in-Ok.houses) c.in-Ok.ensures in
     record { begun = record { count = e; world = b; faithful = refl }; lawful = lawful }
 
-pub returns-then-count-eq0 : need.returns-then-count-eq0
-returns-then-count-eq0 c = record { begun = (refl, or-left (eqb (c .args .count) 0) (ltb 16 (c .args .count)) (eq-eqb (c .args .count) 0 (c .if-count-eq0 .taken))); lawful = lawful }
+pub returns-then-count-eq0 : goal.returns-then-count-eq0
+returns-then-count-eq0 c = record { begun = (refl, or_left (eqb c.args.count 0) (ltb 16 c.args.count) (eq-eqb c.args.count 0 c.if-count-eq0.true)); lawful = lawful }
 
-pub returns-then-count-gt16 : need.returns-then-count-gt16
-returns-then-count-gt16 c = record { begun = (refl, or-right (eqb (c .args .count) 0) (ltb 16 (c .args .count)) (lt-ltb 16 (c .args .count) (c .if-count-gt16 .taken))); lawful = lawful }
+pub returns-then-count-gt16 : goal.returns-then-count-gt16
+returns-then-count-gt16 c = record { begun = (refl, or_right (eqb c.args.count 0) (ltb 16 c.args.count) (lt-ltb 16 c.args.count c.if-count-gt16.true)); lawful = lawful }
 
-pub returns-in-Err : need.returns-in-Err
-returns-in-Err c = record { begun = or-from (eqb (c .args .count) 0) (ltb 16 (c .args .count)) (ne-eqb (c .args .count) 0 (c .if-count-eq0 .left)) (le-ltb 16 (c .args .count) (c .if-count-gt16 .left)); lawful = lawful }
+pub returns-in-Err : goal.returns-in-Err
+returns-in-Err c = record { begun = or_from (eqb c.args.count 0) (ltb 16 c.args.count) (ne_eqb c.args.count 0 c.if-count-eq0.false) (le-ltb 16 c.args.count c.if-count-gt16.false); lawful = lawful }

@@ -1,14 +1,14 @@
-use Prim.Native.Nat.{_+_, _*_}
-use Rattle·play.specs.Settle.{passes}
-use Rattle·net·proofs.SettlingParts.{passes-end, passes-on}
-use Rattle·net·proofs.net.Net.passes.Needs as need
+use Rattle.std.proofs.Common.{◌+◌, ◌*◌}
+use Rattle.play.specs.Settle.{passes}
+use Rattle.net.proofs.SettlingParts.{passes_end, passes_on}
+use Rattle.net.proofs.net.Net.passes.Goals as goal
 
-pub returns-then-marked-before : need.returns-then-marked-before
+pub returns-then-marked-before : goal.returns-then-marked-before
 returns-then-marked-before c =
-    passes-end (λ n w. passes (2048 * n + 1) n w) (c .loop-left .left) (c .calling-each .result) (c .args .self .now) (c .loop-left .self) (c .calling-each .last .self) (c .loop-left .inv) (c .loop-left-test .taken) (c .if-not-calling-each .left) (c .calling-each .ensures)
-    (c .marked-before .result) (c .marked .result) (c .marked-before .ensures) (c .marked .ensures) (c .if-marked-before .taken)
+    passes_end (λ n w. passes (2048 * n + 1) n w) c.loop-left.left c.calling-each.result c.args.self.now c.loop-left.self c.calling-each.new.self c.loop-left.invariant c.loop-left-test.true c.if-not-calling-each.false c.calling-each.ensures
+    c.marked-before.result c.marked.result c.marked-before.ensures c.marked.ensures c.if-marked-before.true
 
-pub loop-left-again : need.loop-left-again
-loop-left-again c =
-    passes-on (λ n w. passes (2048 * n + 1) n w) (c .loop-left .left) (c .calling-each .result) (c .args .self .now) (c .loop-left .self) (c .calling-each .last .self) (c .loop-left .inv) (c .loop-left-test .taken) (c .if-not-calling-each .left) (c .calling-each .ensures)
-    (c .marked-before .result) (c .marked .result) (c .marked-before .ensures) (c .marked .ensures) (c .if-marked-before .left)
+pub loop-left-preserved : goal.loop-left-preserved
+loop-left-preserved c =
+    passes_on (λ n w. passes (2048 * n + 1) n w) c.loop-left.left c.calling-each.result c.args.self.now c.loop-left.self c.calling-each.new.self c.loop-left.invariant c.loop-left-test.true c.if-not-calling-each.false c.calling-each.ensures
+    c.marked-before.result c.marked.result c.marked-before.ensures c.marked.ensures c.if-marked-before.false

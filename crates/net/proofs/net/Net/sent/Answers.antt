@@ -1,6 +1,6 @@
-use mathlib.Core.Path.{_∙_, sym}
-use Rattle·net·proofs.Entered.{so-many}
-use Rattle·net·proofs.net.Net.sent.Needs as need
+use Rattle.std.proofs.Common.{sym, ◌∙◌}
+use Rattle.net.proofs.Entered.{so_many}
+use Rattle.net.proofs.net.Net.sent.Goals as goal
 
-pub returns : need.returns
-returns c = c .len .ensures ∙ sym (so-many (c .args .self .now .sent))
+pub returns : goal.returns
+returns c = c.len.ensures ∙ sym (so_many c.args.self.now.sent)

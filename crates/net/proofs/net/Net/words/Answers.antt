@@ -1,7 +1,7 @@
-use Rattle·play.specs.Settle.{wordTo, each}
-use Rattle·net·proofs.SettlingParts.{along-each}
-use Rattle·net·proofs.net.Net.words.Needs as need
+use Rattle.play.specs.Settle.{word_to, each}
+use Rattle.net.proofs.SettlingParts.{along_each}
+use Rattle.net.proofs.net.Net.words.Goals as goal
 
-pub loop-from-again : need.loop-from-again
-loop-from-again c =
-    along-each (λ n i v. each n (λ j u. wordTo n i j u) n v) (c .loop-from .from) (c .words-of .result) (c .args .self .now) (c .loop-from .self) (c .words-of .last .self) (c .loop-from .inv) (c .if-not-words-of .left) (c .words-of .ensures)
+pub loop-from-preserved : goal.loop-from-preserved
+loop-from-preserved c =
+    along_each (λ n i v. each n (λ j u. word_to n i j u) n v) c.loop-from.from c.words-of.result c.args.self.now c.loop-from.self c.words-of.new.self c.loop-from.invariant c.if-not-words-of.false c.words-of.ensures

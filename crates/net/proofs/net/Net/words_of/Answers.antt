@@ -1,7 +1,7 @@
-use Rattle·play.specs.Settle.{wordTo}
-use Rattle·net·proofs.SettlingParts.{along-each}
-use Rattle·net·proofs.net.Net.words_of.Needs as need
+use Rattle.play.specs.Settle.{word_to}
+use Rattle.net.proofs.SettlingParts.{along_each}
+use Rattle.net.proofs.net.Net.words_of.Goals as goal
 
-pub loop-to-again : need.loop-to-again
-loop-to-again c =
-    along-each (λ n j u. wordTo n (c .args .from) j u) (c .loop-to .to) (c .word .result) (c .args .self .now) (c .loop-to .self) (c .word .last .self) (c .loop-to .inv) (c .if-not-word .left) (c .word .ensures)
+pub loop-to-preserved : goal.loop-to-preserved
+loop-to-preserved c =
+    along_each (λ n j u. word_to n c.args.from j u) c.loop-to.to c.word.result c.args.self.now c.loop-to.self c.word.new.self c.loop-to.invariant c.if-not-word.false c.word.ensures

@@ -1,18 +1,17 @@
-use mathlib.Core.Path.{_≡_, sym, ap, _∙_}
-use mathlib.Core.List.{[]}
-use Rattle·lines.specs.Listed.{objectsListed}
-use Rattle·lines.specs.Lists.{lines}
-use Rattle·objects.specs.Calls.{heapOf}
-use Rattle·rules.specs.Executed.{collected}
-use Rattle·rules.specs.House.{withHeap}
-use Rattle·node·specs.Shown.{houseOf}
-use Rattle·rules.specs.Step.{sends}
-use Rattle·node·proofs.Bytes.{front}
-use Rattle·node·proofs.head.Head.collect.Needs as need
+use Rattle.std.proofs.Common.{◌≡◌, [], sym, ap, ◌∙◌}
+use Rattle.lines.specs.Listed.{objects_listed}
+use Rattle.lines.specs.Lists.{lines}
+use Rattle.objects.specs.Calls.{heap_of}
+use Rattle.rules.specs.Executed.{collected}
+use Rattle.rules.specs.House.{with_heap}
+use Rattle.node.specs.Shown.{house_of}
+use Rattle.rules.specs.Step.{sends}
+use Rattle.node.proofs.Bytes.{front}
+use Rattle.node.proofs.head.Head.collect.Goals as goal
 
-pub returns : need.returns
+pub returns : goal.returns
 returns c =
-    let h = houseOf (c .args .self) (c .args .objects .now) (c .args .list .now) in
-    let listed = objectsListed (lines (c .args .list .now)) in
-    ap (λ x. sends [] (withHeap x h))
-    (sym (c .collect-from .ensures ∙ ap (λ l. collected l (heapOf (c .args .objects .now))) (front (c .objects-count .last .into) (c .objects-count .result) listed (c .objects-count .ensures .after))))
+    let h = house_of c.args.self c.args.objects.now c.args.list.now in
+    let listed = objects_listed (lines c.args.list.now) in
+    ap (λ x. sends [] (with_heap x h))
+    (sym (c.collect-from.ensures ∙ ap (λ l. collected l (heap_of c.args.objects.now)) (front c.objects-count.new.into c.objects-count.result listed c.objects-count.ensures.after)))

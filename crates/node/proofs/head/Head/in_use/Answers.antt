@@ -1,16 +1,16 @@
-use mathlib.Core.Path.{_≡_, sym, ap, _∙_}
-use Rattle·lines.specs.Listed.{objectsIn}
-use Rattle·lines.specs.Lists.{lines}
-use Rattle·objects.specs.Calls.{heapOf}
-use Rattle·rules.specs.Executed.{inUse}
-use Rattle·node·proofs.Bytes.{front, found-also}
-use Rattle·node·proofs.head.Head.in_use.Needs as need
+use Rattle.std.proofs.Common.{◌≡◌, sym, ap, ◌∙◌}
+use Rattle.lines.specs.Listed.{objects_in}
+use Rattle.lines.specs.Lists.{lines}
+use Rattle.objects.specs.Calls.{heap_of}
+use Rattle.rules.specs.Executed.{names_in_use}
+use Rattle.node.proofs.Bytes.{front, found_also}
+use Rattle.node.proofs.head.Head.in_use.Goals as goal
 
-pub returns : need.returns
+pub returns : goal.returns
 returns c =
-    let t = heapOf (c .args .objects .now) in
-    let es = lines (c .args .list .now) in
-    let into = c .objects-in-count .last .into in
-    found-also (c .met-from .result) _ _
-    (ap (λ l. inUse l t) (front into (c .objects-in-count .result) (objectsIn (c .census .result .0) es) (c .objects-in-count .ensures .after)) ∙ ap (λ n. inUse (objectsIn n es) t) (c .census .ensures))
-    (c .met-from .ensures)
+    let t = heap_of c.args.objects.now in
+    let es = lines c.args.list.now in
+    let into = c.objects-in-count.new.into in
+    found_also c.met-from.result _ _
+    (ap (λ l. names_in_use l t) (front into c.objects-in-count.result (objects_in c.census.result.0 es) c.objects-in-count.ensures.after) ∙ ap (λ n. names_in_use (objects_in n es) t) c.census.ensures)
+    c.met-from.ensures

@@ -1,13 +1,11 @@
-use mathlib.Core.Path.{_≡_, sym, ap, _∙_}
-use Rattle·std.specs.Of.Vec.{vec-items}
-use Rattle·std.specs.Options.{isSome}
-use Rattle·tables.specs.Model.{isIn, placeOf}
-use Rattle·tables.specs.Shown.{namesIn}
-use Rattle·tables.proofs.Places.{names-in, is-some-place}
-use Rattle·objects·proofs.store.Objects.is_present.Needs as need
+use Rattle.std.proofs.Common.{◌≡◌, is_some, vec_items, sym, ap, ◌∙◌}
+use Rattle.tables.specs.Model.{is_in, place_of}
+use Rattle.tables.specs.Shown.{names_in}
+use Rattle.tables.proofs.Places.{names_in_place, is_some_place}
+use Rattle.objects.proofs.store.Objects.is_present.Goals as goal
 
-pub returns : need.returns
+pub returns : goal.returns
 returns c =
-    let o = c .args .o .0 in
-    let items = vec-items (c .args .self .now .objects) in
-    c .is-some .ensures ∙ ap isSome (c .find .ensures .value) ∙ is-some-place o (namesIn (c .deref .result .now)) ∙ ap (λ xs. isIn o (namesIn xs)) (c .deref .ensures .value) ∙ ap (isIn o) (sym (names-in items))
+    let o = c.args.o.0 in
+    let items = vec_items c.args.self.now.objects in
+    c.is-some.ensures ∙ ap is_some c.find.ensures.value ∙ is_some_place o (names_in c.deref.result.now) ∙ ap (λ xs. is_in o (names_in xs)) c.deref.ensures.value ∙ ap (is_in o) (sym (names_in_place items))

@@ -1,24 +1,20 @@
-use mathlib.Core.Path.{_≡_, ap, _∙_}
-use Prim.Native.Nat.{_<_}
-use native.Mathlib.Omega.{arith}
-use lib.ListN.{length}
-use Rattle·std.specs.Of.Vec.{vec-items}
-use Rattle·objects·specs.Calls.{heapOf, withObjects}
-use Rattle·tables.specs.Model.{rising, allOwn, fieldsWell}
-use Rattle·tables.specs.Shown.{objectOf, objectsOf, nameIn}
-use Rattle·tables.proofs.Well.{changed-well}
-use Rattle·tables.proofs.Table.{names-set, put-changed}
-use Rattle·objects·proofs.store.Objects.put.Needs as need
+use Rattle.std.proofs.Common.{◌≡◌, ◌<◌, length, vec_items, ap, ◌∙◌, arith}
+use Rattle.objects.specs.Calls.{heap_of, with_objects}
+use Rattle.tables.specs.Model.{rising, all_own, fields_well}
+use Rattle.tables.specs.Shown.{object_of, objects_of, name_in}
+use Rattle.tables.proofs.Well.{changed_well}
+use Rattle.tables.proofs.Table.{names_set, put_changed}
+use Rattle.objects.proofs.store.Objects.put.Goals as goal
 
-pub ghost-self : need.ghost-self
-ghost-self c =
-    let s = c .args .self .now in
-    let l : c .args .at < length (vec-items (s .objects)) = omega (arith, s .objects .ok .0, c .pre .within) in
-    let e = names-set (vec-items (s .objects)) (c .args .at) (c .args .x) (c .pre .same) in
-    (s .sixteen, (s .inside, (s .few, (s .room, (ap rising e ∙ s .ordered, (ap (allOwn (s .home .0) (s .made)) e ∙ s .own, (s .fewRoots, (s .roomRoots, (s .orderedRoots, (s .wellRoots, (ap (fieldsWell (s .houses)) (put-changed (vec-items (s .objects)) (c .args .at) (c .args .x) (s .ordered) l (c .pre .same)) ∙ changed-well (s .houses) (nameIn (c .args .x)) (objectOf (c .args .x) .fields) (objectsOf (vec-items (s .objects))) (c .pre .well) (s .wellFields), tt)))))))))))
+pub invariant-of-self : goal.invariant-of-self
+invariant-of-self c =
+    let s = c.args.self.now in
+    let l : c.args.at < length (vec_items s.objects) = omega (arith, s.objects.ok.0, c.requires.within) in
+    let e = names_set (vec_items s.objects) c.args.at c.args.x c.requires.same in
+    (s.sixteen, (s.inside, (s.few, (s.room, (ap rising e ∙ s.ordered, (ap (all_own s.home.0 s.made) e ∙ s.own, (s.fewRoots, (s.roomRoots, (s.orderedRoots, (s.wellRoots, (ap (fields_well s.houses) (put_changed (vec_items s.objects) c.args.at c.args.x s.ordered l c.requires.same) ∙ changed_well s.houses (name_in c.args.x) (object_of c.args.x).fields (objects_of (vec_items s.objects)) c.requires.well s.wellFields, tt)))))))))))
 
-pub returns : need.returns
+pub returns : goal.returns
 returns c =
-    let s = c .args .self .now in
-    let l : c .args .at < length (vec-items (s .objects)) = omega (arith, s .objects .ok .0, c .pre .within) in
-    ap (λ xs. withObjects xs (heapOf s)) (put-changed (vec-items (s .objects)) (c .args .at) (c .args .x) (s .ordered) l (c .pre .same))
+    let s = c.args.self.now in
+    let l : c.args.at < length (vec_items s.objects) = omega (arith, s.objects.ok.0, c.requires.within) in
+    ap (λ xs. with_objects xs (heap_of s)) (put_changed (vec_items s.objects) c.args.at c.args.x s.ordered l c.requires.same)

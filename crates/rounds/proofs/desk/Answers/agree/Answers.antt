@@ -1,23 +1,20 @@
-use mathlib.Core.Path.{_≡_, sym, ap, _∙_}
-use mathlib.Core.Bool.{Bool}
-use Prim.Native.Nat.{_-_}
-use native.Mathlib.Omega.{arith}
-use Rattle·rounds·specs.Model.{Slot, agrees}
-use Rattle·rounds·specs.Shown.{slotsOf}
-use Rattle·rounds·proofs.Laws.{agree-less}
-use Rattle·rounds·proofs.desk.Answers.agree.Needs as need
+use Rattle.std.proofs.Common.{◌≡◌, ◌-◌, Bool, sym, ap, ◌∙◌, arith}
+use Rattle.rounds.specs.Model.{Slot, agrees}
+use Rattle.rounds.specs.Shown.{slots_of}
+use Rattle.rounds.proofs.Laws.{agree_less}
+use Rattle.rounds.proofs.desk.Answers.agree.Goals as goal
 
 both : {b : Bool} {x y u v : Slot} → b ≡ agrees x y → x ≡ u → y ≡ v → b ≡ agrees u v
 both e f g = rw (← f, ← g) e
 
-pub returns-then-not-agrees : need.returns-then-not-agrees
+pub returns-then-not-agrees : goal.returns-then-not-agrees
 returns-then-not-agrees c =
-    let xs = slotsOf (c .args .self .now) in
-    let ys = slotsOf (c .args .before .now) in
-    sym (c .loop-left .inv ∙ agree-less (c .loop-left .left) xs ys _ (omega arith) (both (c .if-not-agrees .ensures tt) (c .of .ensures) (c .of-in-loop-left .ensures)))
+    let xs = slots_of c.args.self.now in
+    let ys = slots_of c.args.before.now in
+    sym (c.loop-left.invariant ∙ agree_less c.loop-left.left xs ys _ (omega arith) (both c.if-not-agrees.ensures c.of.ensures c.of-in-loop-left.ensures))
 
-pub loop-left-again : need.loop-left-again
-loop-left-again c =
-    let xs = slotsOf (c .args .self .now) in
-    let ys = slotsOf (c .args .before .now) in
-    c .loop-left .inv ∙ agree-less (c .loop-left .left) xs ys _ (omega arith) (both (c .if-not-agrees .ensures tt) (c .of .ensures) (c .of-in-loop-left .ensures))
+pub loop-left-preserved : goal.loop-left-preserved
+loop-left-preserved c =
+    let xs = slots_of c.args.self.now in
+    let ys = slots_of c.args.before.now in
+    c.loop-left.invariant ∙ agree_less c.loop-left.left xs ys _ (omega arith) (both c.if-not-agrees.ensures c.of.ensures c.of-in-loop-left.ensures)

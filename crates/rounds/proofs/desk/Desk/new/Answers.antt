@@ -1,6 +1,6 @@
-use borrow.Author.Needs.{needs}
-use Rattle·rounds·proofs.Laws.{laws}
-use Rattle·rounds·proofs.desk.Desk.new.Needs as need
+use Rattle.std.proofs.Common.{rules}
+use Rattle.rounds.proofs.Laws.{laws}
+use Rattle.rounds.proofs.desk.Desk.new.Goals as goal
 
-pub returns : need.returns
-returns c = record { value = search needs; lawful = laws }
+pub returns : goal.returns
+returns c = record { value = search rules; lawful = laws }

@@ -1,9 +1,9 @@
-use Rattle·objects.specs.Calls.{heapOf}
-use Rattle·census.specs.Standings.{partOf}
-use Rattle·rounds.specs.Shown.{deskOf}
-use Rattle·store·proofs.Lends.{nothing-in, no-rows}
-use Rattle·store·proofs.table.Store.new.Needs as need
+use Rattle.objects.specs.Calls.{heap_of}
+use Rattle.census.specs.Standings.{part_of}
+use Rattle.rounds.specs.Shown.{desk_of}
+use Rattle.store.proofs.Lends.{nothing_in, no_rows}
+use Rattle.store.proofs.table.Store.new.Goals as goal
 
-pub returns : need.returns
+pub returns : goal.returns
 returns c =
-    nothing-in (c .args .home .0) (c .args .houses) (heapOf (c .in-Continue-objects .objects)) _ (c .new-2 .result .stamps) (partOf (c .new-2 .result .standing)) (deskOf (c .new-2 .result .desk)) (c .in-Continue-objects .ensures tt) (no-rows _) (c .new-2 .ensures .stamps) (c .new-2 .ensures .part) (c .new-2 .ensures .desk)
+    nothing_in c.args.home.0 c.args.houses (heap_of c.in-ok-objects.objects) _ c.new-2.result.stamps (part_of c.new-2.result.standing) (desk_of c.new-2.result.desk) c.in-ok-objects.ensures (no_rows _) c.new-2.ensures.stamps c.new-2.ensures.part c.new-2.ensures.desk

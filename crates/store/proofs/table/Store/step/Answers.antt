@@ -1,14 +1,14 @@
-use Rattle·node.specs.Events.{eventIn}
-use Rattle·node.specs.Shown.{houseOf}
-use Rattle·store·specs.Stores.{houseWith}
-use Rattle·store·proofs.Lends.{within, own, far, here, all}
-use Rattle·store·proofs.table.Store.step.Needs as need
+use Rattle.node.specs.Events.{event_in}
+use Rattle.node.specs.Shown.{house_of}
+use Rattle.store.specs.Stores.{house_with}
+use Rattle.store.proofs.Lends.{within, own, far, here, all}
+use Rattle.store.proofs.table.Store.step.Goals as goal
 
-pub ghost-self : need.ghost-self
-ghost-self c =
-    let s = c .args .self .now in
-    let t = c .step-head .last .list in
-    let lent = c .step-head .ensures .lent in
-    let h = houseWith (c .replace-head .result) s in
-    let g = houseOf (c .step-head .result .0) (c .step-head .last .objects) t in
-    (within t (lent .room), (s .sixteen, (t .alone, (own t (s .home) (lent .home), (far t (s .home) (s .houses) (lent .home) (lent .houses), (here (c .step-head .result .1) h g (eventIn (c .args .event)) (s .home .0) (c .step-head .ensures .step) (s .here), (all (c .step-head .result .1) h g (eventIn (c .args .event)) (s .houses) (c .step-head .ensures .step) (s .all), tt)))))))
+pub invariant-of-self : goal.invariant-of-self
+invariant-of-self c =
+    let s = c.args.self.now in
+    let t = c.step-head.new.list in
+    let lent = c.step-head.ensures.lent in
+    let h = house_with c.replace-head.result s in
+    let g = house_of c.step-head.result.0 c.step-head.new.objects t in
+    (within t lent.room, (s.sixteen, (t.alone, (own t s.home lent.home, (far t s.home s.houses lent.home lent.houses, (here c.step-head.result.1 h g (event_in c.args.event) s.home.0 c.step-head.ensures.step s.here, (all c.step-head.result.1 h g (event_in c.args.event) s.houses c.step-head.ensures.step s.all, tt)))))))

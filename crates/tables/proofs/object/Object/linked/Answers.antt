@@ -1,16 +1,12 @@
-use mathlib.Core.Path.{_≡_, ap, _∙_}
-use mathlib.Core.List.{List}
-use lib.ListN.{length, take, set}
-use native.Mathlib.Omega.{arith}
-use Prim.Native.Nat.{_<_}
-use Rattle·std.proofs.shelf.Lists.{take-more-set, map-push}
-use Rattle·tables·specs.Shown.{number, numbers}
-use Rattle·tables·specs.Model.{withFields}
-use Rattle·tables·specs.Shown.{objectOf}
-use Rattle·tables·proofs.object.Object.linked.Needs as need
+use Rattle.std.proofs.Common.{◌≡◌, ◌<◌, List, length, take, set, ap, ◌∙◌, arith}
+use Rattle.std.proofs.lemmas.List.{take_more_set, map_push}
+use Rattle.tables.specs.Shown.{number, numbers}
+use Rattle.tables.specs.Model.{with_fields}
+use Rattle.tables.specs.Shown.{object_of}
+use Rattle.tables.proofs.object.Object.linked.Goals as goal
 
-pub returns : need.returns
+pub returns : goal.returns
 returns c =
-    let x = c .args .self in
-    let h : x .count < length (x .slots) = omega arith in
-    ap (withFields (objectOf x)) (ap numbers (take-more-set (x .slots) (x .count) (c .args .p) h) ∙ map-push number (take (x .count) (x .slots)) (c .args .p))
+    let x = c.args.self in
+    let h : x.count < length x.slots = omega arith in
+    ap (with_fields (object_of x)) (ap numbers (take_more_set x.slots x.count c.args.p h) ∙ map_push number (take x.count x.slots) c.args.p)

@@ -1,34 +1,29 @@
-use mathlib.Core.Path.{_≡_, refl, sym, ap, subst, _∙_}
-use mathlib.Core.List.{List, [], _∷_, _++_}
-use Prim.Native.Nat.{ℕ, _<_, _≤_, _+_, _-_, suc}
-use native.Mathlib.Omega.{arith}
-use native.Mathlib.Numerals.{add-one}
-use lib.ListN.{length, take, drop, getD, set}
-use Rattle·std.specs.Holes.{removed}
-use Rattle·std.proofs.shelf.Lists.{take-more, take-more-set, drop-set-lt, getD-drop, length-set, length-take-le}
-use Rattle·wire.specs.Names.{name}
-use Rattle·tables·specs.Shown.{number, numbers, objectOf}
-use Rattle·tables·specs.Model.{withFields}
-use Rattle·tables·proofs.Edits.{removed-last, removed-push, map-removed, moved}
-use Rattle·tables·proofs.object.Object.unlinked.Needs as need
+use Rattle.std.proofs.Common.{◌≡◌, ℕ, suc, ◌+◌, ◌-◌, ◌<◌, ◌≤◌, List, [], ◌∷◌, ◌++◌, length, get_or, take, drop, set, sym, refl, ap, ◌∙◌, subst, add-one, arith}
+use Rattle.std.specs.List.{remove}
+use Rattle.std.proofs.lemmas.List.{take_more, take_more_set, drop-set-lt, get_or-drop, length-set, length-take-le}
+use Rattle.wire.specs.Names.{name}
+use Rattle.tables.specs.Shown.{number, numbers, object_of}
+use Rattle.tables.specs.Model.{with_fields}
+use Rattle.tables.proofs.Edits.{removed_last, removed_push, map_removed, moved}
+use Rattle.tables.proofs.object.Object.unlinked.Goals as goal
 
-pub loop-i-holds : need.loop-i-holds
-loop-i-holds c =
-    let at = c .args .at in
-    let xs = c .args .self .slots in
+pub loop-i-init : goal.loop-i-init
+loop-i-init c =
+    let at = c.args.at in
+    let xs = c.args.self.slots in
     let e : (at + 1) - 1 ≡ at = omega arith in
-    (ap (λ k. removed (take k xs) at) (add-one at) ∙ removed-last xs at ∙ ap (λ k. take k xs) (sym e), refl, omega arith)
+    (ap (λ k. remove (take k xs) at) (add-one at) ∙ removed_last xs at ∙ ap (λ k. take k xs) (sym e), refl, omega arith)
 
-pub loop-i-again : need.loop-i-again
-loop-i-again c =
-    let h : c .args .at < c .loop-i .i = omega arith in
-    let l : c .loop-i .i < 8 = omega arith in
-    moved (c .args .self .slots) (c .loop-i .slots) (c .args .at) (c .loop-i .i) (name 0) 8 (omega arith) (c .loop-i .inv .2) l h (c .loop-i .inv .0) (c .loop-i .inv .1)
+pub loop-i-preserved : goal.loop-i-preserved
+loop-i-preserved c =
+    let h : c.args.at < c.loop-i.i = omega arith in
+    let l : c.loop-i.i < 8 = omega arith in
+    moved c.args.self.slots c.loop-i.slots c.args.at c.loop-i.i (name 0) 8 (omega arith) c.loop-i.invariant.2 l h c.loop-i.invariant.0 c.loop-i.invariant.1
 
-pub returns : need.returns
+pub returns : goal.returns
 returns c =
-    let x = c .args .self in
-    let e : c .loop-i .i ≡ x .count = omega arith in
-    let p : take (x .count - 1) (c .loop-i .slots) ≡ removed (take (x .count) (x .slots)) (c .args .at) =
-    subst (λ k. take (k - 1) (c .loop-i .slots) ≡ removed (take k (x .slots)) (c .args .at)) e (sym (c .loop-i .inv .0)) in
-    ap (withFields (objectOf x)) (ap numbers p ∙ map-removed number (take (x .count) (x .slots)) (c .args .at))
+    let x = c.args.self in
+    let e : c.loop-i.i ≡ x.count = omega arith in
+    let p : take (x.count - 1) c.loop-i.slots ≡ remove (take x.count x.slots) c.args.at =
+    subst (λ k. take (k - 1) c.loop-i.slots ≡ remove (take k x.slots) c.args.at) e (sym c.loop-i.invariant.0) in
+    ap (with_fields (object_of x)) (ap numbers p ∙ map_removed number (take x.count x.slots) c.args.at)
