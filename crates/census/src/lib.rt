@@ -1,4 +1,7 @@
 // A house's part in a census: what it has told of the objects of others, and what it says when it is asked.
+
+#![tactic(auto)]
+
 mod answers;
 mod mood;
 mod rounds;

@@ -1,3 +1,6 @@
 // What a house's part in a census does on examples.
+
+#![tactic(auto)]
+
 #[cfg(test)]
 mod tests;

@@ -1,4 +1,7 @@
 // What both programs do with their arguments, standard input and standard output.
+
+#![tactic(auto)]
+
 use anyhow::anyhow;
 use std::alloc::Global;
 use std::env;

@@ -1,4 +1,7 @@
 // What programs in other languages call, from a static library.
+
+#![tactic(auto)]
+
 mod reading;
 mod said;
 

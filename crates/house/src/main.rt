@@ -1,4 +1,7 @@
 // One house: calls and messages come as lines on standard input, and what it sends goes to standard output.
+
+#![tactic(auto)]
+
 use anyhow::anyhow;
 use console::Player;
 use node::Answer;

@@ -1,9 +1,9 @@
 -- A list that is closed up in place: the lines that a test takes away go, the others follow in order.
-use Rattle.std.proofs.Common.{◌≡◌, ℕ, zero, suc, ◌+◌, ◌-◌, ◌<◌, ◌≤◌, Bool, true, false, cond, not, eqb, ◌≢◌, ◌⊎◌, List, [], ◌∷◌, ◌++◌, length, get_or, sym, refl, ap, ◌∙◌, subst, inl, inr, ⊎_elim, append_assoc, arith}
+use Rattle.std.proofs.Common.{◌≡◌, ℕ, ◌+◌, ◌-◌, ◌<◌, ◌≤◌, Bool, true, false, cond, not, eqb, ◌≢◌, List, [], ◌∷◌, ◌++◌, get_or, sym, refl, ap, ◌∙◌, subst, ⊎_elim, append_assoc, arith}
 use Rattle.std.proofs.lemmas.List.{append-nil}
 use Rattle.std.proofs.lemmas.Bool.{cases_eq, cond-true, cond-false}
 use Rattle.wire.specs.Names.{home}
-use Rattle.lines.specs.Listed.{Listed, line, goes, heard_of, swept}
+use Rattle.lines.specs.Listed.{Listed, goes, heard_of, swept}
 use Rattle.lines.specs.Columns.{rows, Alone, Own, Far}
 use Rattle.lines.specs.Lists.{lines, row_of, Lent, Pushed, Ready}
 use Rattle.lines.specs.declared.table.Lines.{Lines}

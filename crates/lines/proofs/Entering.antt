@@ -1,13 +1,12 @@
 -- What `enter` answers and makes of the list, by what it finds.
-use Rattle.std.proofs.Common.{◌≡◌, ℕ, ◌<◌, ◌≤◌, true, false, cond, ◌&&◌, ◌||◌, eqb, ltb, length, set, is_some, Some, None, Ok, Err, sym, refl, ap, ◌∙◌, subst, arith}
+use Rattle.std.proofs.Common.{◌≡◌, ℕ, ◌<◌, ◌≤◌, true, false, cond, eqb, ltb, length, is_some, Some, None, Ok, Err, sym, ap, ◌∙◌, arith}
 use Rattle.std.proofs.lemmas.Bool.{lt-ltb, le-ltb, or_from, or_left, or_right, and_parts, eqb-true, eqb-false, ltb-true, not-true}
 use Rattle.wire.specs.declared.refusal.Refusal.TheVariants.{NoRoom}
 use Rattle.wire.specs.Names.{home}
 use Rattle.lines.specs.Listed.{belongs, fits, listed, line, place, entered}
-use Rattle.lines.specs.Columns.{model}
 use Rattle.lines.specs.Lists.{lines, row_of, entering, Pushed, Ready, Changed}
 use Rattle.lines.specs.declared.table.Lines.{Lines}
-use Rattle.lines.proofs.Rows.{length_rows, pushed_lines, rows_same, Fresh, fresh_ready}
+use Rattle.lines.proofs.Rows.{length_rows, pushed_lines, fresh_ready}
 use Rattle.lines.proofs.Places.{listed_place, entered_none, unplaced, model_found}
 
 module _ (t : Lines) (o j : ℕ) (in' : true ≡ belongs t.home.0 t.houses o j) where

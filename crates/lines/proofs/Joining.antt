@@ -1,7 +1,7 @@
 -- A list whose lines join a census one by one.
-use Rattle.std.proofs.Common.{◌≡◌, ℕ, ◌+◌, ◌-◌, ◌<◌, ◌≤◌, true, false, cond, ltb, ◌≢◌, List, ◌++◌, length, get_or, set, sym, refl, ap, ◌∙◌, subst, arith, get_or-set_other, get_or-set_same}
+use Rattle.std.proofs.Common.{◌≡◌, ℕ, ◌+◌, ◌-◌, ◌<◌, ◌≤◌, true, false, ltb, ◌++◌, length, get_or, sym, refl, ap, ◌∙◌, subst, arith, get_or-set_other, get_or-set_same}
 use Rattle.std.proofs.lemmas.Bool.{cond-true, cond-false}
-use Rattle.lines.specs.Listed.{Listed, line, joined}
+use Rattle.lines.specs.Listed.{Listed, joined}
 use Rattle.lines.specs.Columns.{rows}
 use Rattle.lines.specs.Lists.{lines, row_of, Lent, Numbered}
 use Rattle.lines.specs.declared.table.Lines.{Lines}

@@ -1,10 +1,10 @@
 -- The laws of hearing, entering, joining and sweeping.
-use Rattle.std.proofs.Common.{◌≡◌, ℕ, ◌+◌, ◌<◌, ◌≤◌, Bool, true, false, cond, not, ◌&&◌, ◌||◌, eqb, ltb, leb, ◌⊎◌, List, [], ◌∷◌, sym, refl, ap, ◌∙◌, subst, inl, inr, ⊎_elim, arith}
+use Rattle.std.proofs.Common.{◌≡◌, ℕ, ◌<◌, true, false, cond, ◌&&◌, eqb, ltb, leb, List, [], ◌∷◌, sym, refl, ap, ◌∙◌, subst, ⊎_elim, arith}
 use mathlib.Core.List.Memᴰ
 use mathlib.Core.List.{Memᴰ}
-use Rattle.std.proofs.lemmas.Bool.{cases_Bool, cond-true, cond-false, and_parts, leb-true, eq-eqb, ne_eqb, eqb-true}
-use Rattle.std.specs.List.{AllZip, AllByRecursion as All}
-use Rattle.lines.specs.Listed.{Listed, line, is_in, is_of, goes, heard_of, swept, entered, joined}
+use Rattle.std.proofs.lemmas.Bool.{cases_Bool, cond-true, cond-false, and_parts, leb-true, eq-eqb, ne_eqb}
+use Rattle.std.specs.List.{AllByRecursion as All}
+use Rattle.lines.specs.Listed.{Listed, line, is_of, goes, heard_of, swept, entered, joined}
 use Rattle.lines.specs.Laws.{Again, Survives, Outlives, Raised, Raises, unheard, LeavesUnheard}
 
 module _ (j : ℕ) (held : List ℕ) (upto : ℕ) where

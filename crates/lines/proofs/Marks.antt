@@ -1,9 +1,9 @@
 -- Laws of joining and marking in place, and of what is held in a census.
-use Rattle.std.proofs.Common.{◌≡◌, ℕ, zero, suc, ◌+◌, ◌-◌, ◌<◌, ◌≤◌, Bool, true, false, cond, not, ◌&&◌, ◌||◌, eqb, ltb, ◌≢◌, ◌⊎◌, List, [], ◌∷◌, ◌++◌, length, get_or, set, is_some, Some, None, Option, sym, refl, ap, ◌∙◌, inl, inr, ⊎_elim, append_assoc, arith, get_or-set_other, get_or-set_same}
+use Rattle.std.proofs.Common.{◌≡◌, ℕ, zero, suc, ◌+◌, ◌-◌, ◌<◌, ◌≤◌, Bool, true, false, cond, not, ◌&&◌, ◌||◌, eqb, ltb, ◌≢◌, List, [], ◌∷◌, ◌++◌, get_or, set, is_some, Some, None, sym, refl, ap, ◌∙◌, ⊎_elim, append_assoc, arith, get_or-set_other, get_or-set_same}
 use Rattle.std.proofs.lemmas.List.{append-nil}
-use Rattle.std.proofs.lemmas.Bool.{eq-eqb, eqb-true, and_parts, and_left, and_right, cases_Bool, cases_eq, cond-true, cond-false, or_parts, lt-ltb, le-ltb}
+use Rattle.std.proofs.lemmas.Bool.{eqb-true, and_parts, and_left, cases_Bool, cond-true, cond-false, or_parts}
 use Rattle.lines.specs.Listed.{Listed, line, is_of, listed, listed_in, place, marked, joined}
-use Rattle.lines.specs.Columns.{row, rows, model, Alone}
+use Rattle.lines.specs.Columns.{row, rows}
 use Rattle.lines.proofs.Rows.{rows_more, rows_none, rows_same, rows_end, line_same}
 use Rattle.lines.specs.Lists.{lines, row_of, Numbered}
 use Rattle.lines.specs.declared.table.Lines.{Lines}

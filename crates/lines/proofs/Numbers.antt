@@ -1,8 +1,8 @@
 -- The numbers of a part, by their places, and the search among numbers that rise.
-use Rattle.std.proofs.Common.{◌≡◌, ℕ, zero, suc, ◌+◌, ◌-◌, ◌*◌, ◌/◌, ◌%◌, ◌<◌, ◌≤◌, Bool, true, false, cond, ◌&&◌, ◌||◌, eqb, ltb, ◌≢◌, ◌⊎◌, List, [], ◌∷◌, length, get_or, sym, refl, ap, ◌∙◌, inl, inr, ⊎_elim, arith}
+use Rattle.std.proofs.Common.{◌≡◌, ℕ, zero, suc, ◌+◌, ◌*◌, ◌/◌, ◌%◌, ◌<◌, ◌≤◌, true, false, eqb, ltb, List, [], ◌∷◌, length, get_or, refl, ap, ◌∙◌, ⊎_elim, arith}
 use native.Mathlib.Nat.{add-div_left}
 use Rattle.std.proofs.lemmas.Bool.{eq-eqb, ne_eqb, ltb-true, and_parts, or_left, or_right, or_from, cases_lt, cases_order}
-use Rattle.wire.specs.Format.{number, numbers, rising, u32_at}
+use Rattle.wire.specs.Format.{numbers, rising, u32_at}
 use Rattle.lines.specs.Listed.{is_in}
 use Rattle.lines.specs.Words.{Ascending}
 

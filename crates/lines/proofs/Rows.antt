@@ -1,11 +1,10 @@
 -- Laws of rows, and of columns with one more line.
-use Rattle.std.proofs.Common.{◌≡◌, ℕ, zero, suc, ◌+◌, ◌-◌, ◌<◌, ◌≤◌, ◌≢◌, ◌⊎◌, List, [], ◌∷◌, ◌++◌, length, get_or, set, Some, None, Option, sym, refl, ap, ◌∙◌, subst, inl, inr, ⊎_elim, add-one, arith, get_or-set_other, get_or-set_same}
+use Rattle.std.proofs.Common.{◌≡◌, ℕ, zero, suc, ◌+◌, ◌-◌, ◌<◌, ◌≤◌, ◌≢◌, List, [], ◌∷◌, ◌++◌, length, get_or, set, Some, None, sym, refl, ap, ◌∙◌, subst, ⊎_elim, add-one, arith, get_or-set_other, get_or-set_same}
 use Rattle.std.proofs.lemmas.Bool.{cases_eq}
 use Rattle.wire.specs.Names.{home}
 use Rattle.lines.specs.Listed.{Listed, line}
-use Rattle.lines.specs.Columns.{row, rows, Alone, Own, Far}
+use Rattle.lines.specs.Columns.{rows, Alone, Own, Far}
 use Rattle.lines.specs.Lists.{lines, row_of, shown, line_at, Pushed, Ready}
-use Rattle.lines.specs.declared.line.Line.{Line}
 use Rattle.lines.specs.declared.table.Lines.{Lines}
 
 pub rows_more : (f : ℕ → Listed) (i n : ℕ) → i < n → rows f i (n - i) ≡ f i ∷ rows f (i + 1) (n - (i + 1))

@@ -1,9 +1,9 @@
 -- What holds of the list whatever is in it, in the words of its use.
-use Rattle.std.specs.Prelude.{◌≡◌, ℕ, ◌<◌, ◌≤◌, Bool, cond, List, [], ◌∷◌, length, ◌≢◌, nat_lt}
+use Rattle.std.specs.Prelude.{◌≡◌, ℕ, ◌<◌, ◌≤◌, cond, List, [], ◌∷◌, length, ◌≢◌, nat_lt}
 use mathlib.Core.List.{Memᴰ}
 use Rattle.std.specs.List.{AllZip, AllByRecursion as All}
 use Rattle.wire.specs.Names.{home}
-use Rattle.lines.specs.Listed.{Listed, line, heard_of, entered, joined}
+use Rattle.lines.specs.Listed.{Listed, line, heard_of, joined}
 
 -- Hearing the same word twice is hearing it once: after it, it takes no more away.
 abbrev pub Again : ℕ → List ℕ → ℕ → List Listed → Type 0

@@ -1,5 +1,5 @@
 -- The list of who holds what, as a list of lines, and what the calls make of it. Names, houses, stamps and census numbers are plain numbers here.
-use Rattle.std.specs.Prelude.{ℕ, zero, suc, ◌+◌, Bool, true, false, cond, not, ◌&&◌, ◌||◌, List, [], ◌∷◌, length, Some, None, Option, ◌==◌, nat_le, nat_lt}
+use Rattle.std.specs.Prelude.{ℕ, ◌+◌, Bool, false, cond, not, ◌&&◌, ◌||◌, List, [], ◌∷◌, length, Some, None, Option, ◌==◌, nat_le, nat_lt}
 use Rattle.wire.specs.Names.{home}
 
 -- a line: this object was handed to this holder, last with this stamp, and was last found in use in this census

@@ -1,5 +1,5 @@
 -- The list that lent columns hold.
-use Rattle.std.specs.Prelude.{◌≡◌, ℕ, zero, suc, ◌+◌, ◌<◌, Bool, cond, List, [], ◌∷◌, length, Some, None, Ok, Err, Option, Result, slice_set}
+use Rattle.std.specs.Prelude.{◌≡◌, ℕ, zero, suc, ◌+◌, ◌<◌, cond, List, [], ◌∷◌, length, Some, None, Ok, Err, Option, Result, slice_set}
 use Rattle.wire.specs.declared.refusal.Refusal.{Refusal}
 use Rattle.wire.specs.declared.refusal.Refusal.TheVariants.{Malformed, NoRoom}
 use Rattle.wire.specs.Names.{house, name}
@@ -32,10 +32,10 @@ entering here houses room o j es = cond (belongs here houses o j) (cond (fits o 
 
 -- u lies in the memory that t lies in, and is the list of the same house
 pub record Lent (t u : Lines) : Type 0 where
-  pub objects : u.objects.name ≡ t.objects.name
-  pub holders : u.holders.name ≡ t.holders.name
-  pub stamps : u.stamps.name ≡ t.stamps.name
-  pub censuses : u.censuses.name ≡ t.censuses.name
+  pub objects : u.objects.ghost_name ≡ t.objects.ghost_name
+  pub holders : u.holders.ghost_name ≡ t.holders.ghost_name
+  pub stamps : u.stamps.ghost_name ≡ t.stamps.ghost_name
+  pub censuses : u.censuses.ghost_name ≡ t.censuses.ghost_name
   pub objects_long : length u.objects.now ≡ length t.objects.now
   pub holders_long : length u.holders.now ≡ length t.holders.now
   pub stamps_long : length u.stamps.now ≡ length t.stamps.now

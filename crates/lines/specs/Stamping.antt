@@ -1,5 +1,5 @@
 -- The stamps of a house: for each house what was given to it, seen from it and heard of it.
-use Rattle.std.specs.Prelude.{ℕ, ◌+◌, max, Bool, cond, ◌&&◌, List, replicate, Ok, Err, Result, nat_lt, slice_index, slice_set}
+use Rattle.std.specs.Prelude.{ℕ, ◌+◌, cond, replicate, Ok, Err, Result, nat_lt, slice_index, slice_set}
 use Rattle.wire.specs.declared.names.Stamp.{Stamp}
 use Rattle.wire.specs.declared.refusal.Refusal.{Refusal}
 use Rattle.wire.specs.declared.refusal.Refusal.TheVariants.{Malformed, OldStamp, OutOfNumbers}

@@ -1,4 +1,7 @@
 // The reference list of a house: who holds which of its objects.
+
+#![tactic(auto)]
+
 mod counting;
 mod entry;
 mod line;

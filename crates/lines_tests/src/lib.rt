@@ -1,4 +1,7 @@
 // Examples of the reference list, with what they must come to.
+
+#![tactic(auto)]
+
 #[cfg(test)]
 mod many;
 #[cfg(test)]

@@ -1,4 +1,7 @@
 // What is measured from other languages, from a static library: a house is told some lines, as the program `house` is, and then does one thing many times.
+
+#![tactic(auto)]
+
 use node::Answer;
 use std::alloc::{AllocError, Global};
 use store::Store;

@@ -1,4 +1,7 @@
 // Houses that hand references to each other, with all that was ever sent: the promise stands on every call.
+
+#![tactic(auto)]
+
 mod entries;
 mod making;
 mod net;

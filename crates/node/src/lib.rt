@@ -1,4 +1,7 @@
 // One house: every call and every message as one step over its objects, its list, its stamps, its part in the census and its rounds.
+
+#![tactic(auto)]
+
 mod calls;
 mod collecting;
 mod dispatch;

@@ -1,14 +1,10 @@
 -- What a collection leaves.
-use Rattle.std.proofs.Common.{◌≡◌, ℕ, zero, suc, ◌+◌, ◌-◌, ◌<◌, ◌≤◌, Bool, true, false, cond, ◌&&◌, ◌||◌, eqb, ltb, ◌⊎◌, List, [], ◌∷◌, ◌++◌, map, length, get_or, replicate, sym, refl, ap, ◌∙◌, subst, inl, inr, ⊎_elim, arith}
-use Rattle.std.proofs.lemmas.List.{length-map}
-use Rattle.std.proofs.lemmas.Bool.{cases_Bool, or_cases, or_left, or_right, cond-true, cond-false, cond_both, and_parts, and_from, both_ways, eqb-true, eq-eqb}
-use Rattle.tables.specs.declared.object.Object.{Object}
+use Rattle.std.proofs.Common.{◌≡◌, ℕ, zero, suc, ◌<◌, ◌≤◌, Bool, true, false, eqb, ltb, List, [], ◌∷◌, map, length, get_or, replicate, refl, ap, ⊎_elim, arith}
+use Rattle.std.proofs.lemmas.Bool.{or_cases, or_left, or_right, and_parts, and_from, both_ways, eqb-true, eq-eqb}
 use Rattle.tables.specs.Model as model
 use Rattle.tables.specs.Model.{is_in, present, names, rising, above, is_own, all_own}
-use Rattle.tables.specs.Met.{Met, Some, end, kept, left}
-use Rattle.tables.specs.Marks.{kept_by, Marked}
-use Rattle.tables.specs.Shown.{object_of, objects_of, names_in, name_in}
-use Rattle.tables.proofs.Places.{names_in_place}
+use Rattle.tables.specs.Met.{Some, end, kept, left}
+use Rattle.tables.specs.Marks.{kept_by}
 
 pub clear_all : (n k : ℕ) → get_or (replicate n false) k false ≡ false
 clear_all zero k = refl

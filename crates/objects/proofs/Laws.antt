@@ -1,10 +1,10 @@
 -- What follows of a collection.
-use Rattle.std.proofs.Common.{◌≡◌, ℕ, zero, suc, ◌+◌, ◌<◌, ◌≤◌, Bool, true, false, cond, ◌&&◌, ◌||◌, eqb, ltb, ◌⊎◌, List, [], ◌∷◌, ◌++◌, length, sym, refl, ap, ◌∙◌, subst, inl, inr, ⊎_elim, arith}
-use Rattle.std.proofs.lemmas.Bool.{cases_Bool, cases_eq, cases_lt, or_cases, or_parts, or_left, or_right, or_from, cond-true, cond-false, and_parts, both_ways, ltb-true, eqb-true, eqb-false, eq-eqb, ne_eqb}
+use Rattle.std.proofs.Common.{◌≡◌, ℕ, ◌≤◌, true, false, eqb, List, [], ◌∷◌, ◌++◌, sym, refl, ap, ◌∙◌, subst, ⊎_elim, arith}
+use Rattle.std.proofs.lemmas.Bool.{cases_Bool, cases_lt, or_cases, or_parts, or_left, or_right, or_from, cond-true, cond-false, and_parts, both_ways, eqb-true, eq-eqb, ne_eqb}
 use Rattle.tables.specs.Model.{Object, Heap, is_in, present, fields_of, names, rising, above, without, all_well, fields_well}
 use Rattle.wire.specs.Names.{name, well_formed}
 use Rattle.tables.specs.Met.{Met, start, field, Some, end, kept, left, Collected, Lists, everywhere}
-use Rattle.objects.specs.Laws.{Lasting, Lone, Frees, count_of, Single, Sole, Well}
+use Rattle.objects.specs.Laws.{Lasting, Lone, Frees, count_of, Sole, Well}
 use Rattle.tables.proofs.Places.{above_out}
 use Rattle.tables.proofs.Well.{well_in, well_fields, well_append, well_everywhere}
 use Rattle.tables.proofs.Reach.{is_in_append}

@@ -1,16 +1,16 @@
 -- What a search for names finds.
-use Rattle.std.proofs.Common.{◌≡◌, ℕ, zero, suc, ◌+◌, ◌%◌, ◌<◌, ◌≤◌, Bool, true, false, cond, not, ◌&&◌, ◌||◌, eqb, ◌⊎◌, List, [], ◌∷◌, ◌++◌, length, get_or, replicate, sym, refl, ap, ◌∙◌, subst, inl, inr, ⊎_elim, arith}
-use Rattle.std.proofs.lemmas.List.{length-map, append-nil}
+use Rattle.std.proofs.Common.{◌≡◌, ℕ, zero, suc, ◌%◌, ◌<◌, ◌≤◌, Bool, true, false, eqb, ◌⊎◌, List, [], ◌∷◌, ◌++◌, length, get_or, replicate, sym, refl, ap, ◌∙◌, subst, inl, inr, ⊎_elim, arith}
+use Rattle.std.proofs.lemmas.List.{append-nil}
 use Rattle.std.proofs.lemmas.Bool.{or_cases, or_left, or_right, both_ways, not-true, not_from_false, eqb-true, eqb-false, eq-eqb, ne_eqb}
 use Rattle.wire.specs.declared.names.House.{House}
 use Rattle.tables.specs.declared.object.Object.{Object}
 use Rattle.tables.specs.declared.which.Which.{Which}
 use Rattle.tables.specs.declared.which.Which.TheVariants.{Of, NotOf}
-use Rattle.tables.specs.Model.{Heap, is_in, present, fields_of, rising}
+use Rattle.tables.specs.Model.{Heap, is_in, fields_of, rising}
 use Rattle.tables.specs.Met.{Met, start, field, Lists, FarInUse, Refers, everywhere}
 use Rattle.tables.specs.Marks.{kept_by, Marked, field_lists, fields_in}
 use Rattle.tables.specs.Gathered.{wanted, gathered, Found}
-use Rattle.tables.specs.Shown.{object_of, objects_of, names_in, name_in}
+use Rattle.tables.specs.Shown.{objects_of, names_in}
 use Rattle.tables.proofs.Reach.{is_in_append, fields_place, present_place, place_present}
 use Rattle.tables.proofs.Gathers.{rising_gathered, gathered_old, gathered_new, gathered_why}
 

@@ -1,5 +1,5 @@
 -- What each call answers, and what it leaves.
-use Rattle.std.specs.Prelude.{◌≡◌, ℕ, ◌+◌, ◌*◌, Bool, true, false, cond, not, ◌&&◌, ◌||◌, List, [], ◌∷◌, ◌++◌, length, is_ok, Some, None, Ok, Err, vec_items, Option, Result, ◌==◌, nat_le, nat_lt}
+use Rattle.std.specs.Prelude.{◌≡◌, ℕ, ◌+◌, ◌*◌, Bool, true, false, cond, not, ◌&&◌, ◌||◌, List, [], ◌∷◌, ◌++◌, length, is_ok, None, Ok, Err, vec_items, Option, Result, ◌==◌, nat_le, nat_lt}
 use Rattle.wire.specs.declared.names.Name.{Name}
 use Rattle.wire.specs.declared.refusal.Refusal.{Refusal}
 use Rattle.wire.specs.declared.refusal.Refusal.TheVariants.{Malformed, NotRoot, NoField, NoRoom, OutOfNumbers}
@@ -7,7 +7,7 @@ use Rattle.wire.specs.Names.{well_formed, name}
 use Rattle.objects.specs.declared.store.Objects.{Objects}
 use Rattle.objects.specs.declared.fault.Fault.{Fault}
 use Rattle.objects.specs.declared.fault.Fault.TheVariants.{Refused, NoMemory}
-use Rattle.tables.specs.Model.{Heap, Object, is_in, present, fields_of, changed, without, without_first, added, below, names, place_of, bare}
+use Rattle.tables.specs.Model.{Heap, Object, is_in, present, fields_of, changed, without, without_first, added, names, place_of, bare}
 use Rattle.tables.specs.Shown.{objects_of, numbers}
 
 -- the tables as lists

@@ -1,5 +1,5 @@
 -- What follows of a collection, in words of the house.
-use Rattle.std.specs.Prelude.{◌≡◌, ℕ, ◌+◌, ◌≤◌, Bool, true, false, cond, List, [], ◌∷◌, ◌==◌}
+use Rattle.std.specs.Prelude.{◌≡◌, ℕ, ◌+◌, ◌≤◌, true, false, cond, List, [], ◌∷◌, ◌==◌}
 use Rattle.tables.specs.Model.{Object, Heap, is_in, present, fields_of}
 use Rattle.wire.specs.Names.{name, well_formed}
 use Rattle.tables.specs.Met.{Collected, Lists, everywhere}

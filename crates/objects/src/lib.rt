@@ -1,4 +1,7 @@
 // The objects and roots of one house: what is met from the roots, and the freeing of what is not.
+
+#![tactic(auto)]
+
 mod calls;
 mod changes;
 mod collecting;

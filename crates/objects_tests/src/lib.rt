@@ -1,4 +1,7 @@
 // Examples of the objects of a house, worked by hand.
+
+#![tactic(auto)]
+
 #[cfg(test)]
 mod tests {
     use objects::Objects;

@@ -9,7 +9,6 @@ use Rattle.census.specs.Model.{Told, names, answered_in, settled}
 use Rattle.census.specs.Model as census
 use Rattle.census.proofs.Laws.{laws}
 use Rattle.census.proofs.Settling.{names_settled, settled_out}
-use Rattle.rounds.specs.Model.{said, noted}
 use Rattle.rules.specs.House as rules
 use Rattle.rules.specs.Step.{sends, settles}
 use Rattle.promise.specs.Rounds.{Turn, AlikePart, Answer}

@@ -1,5 +1,5 @@
 -- The answers of calm houses, as the house that asks notes them one after the other.
-use Rattle.std.proofs.Common.{◌≡◌, ℕ, zero, suc, ◌+◌, ◌<◌, ◌≤◌, Bool, true, false, not, ◌&&◌, eqb, ltb, leb, ◌⊎◌, List, length, set, Ok, sym, refl, ap, ◌∙◌, subst, ⊎_elim, arith, length-set}
+use Rattle.std.proofs.Common.{◌≡◌, ℕ, zero, suc, ◌+◌, ◌<◌, ◌≤◌, Bool, true, false, not, ◌&&◌, eqb, ltb, leb, List, length, set, Ok, sym, refl, ap, ◌∙◌, subst, ⊎_elim, arith, length-set}
 use Rattle.std.proofs.lemmas.List.{get_or-set_same, get_or-set_other}
 use Rattle.std.proofs.lemmas.Bool.{and_from, and_left, or_right, cond-true, eq-eqb, ne_eqb, le-leb, lt-ltb, true≢false, cases_Bool, cases_eq}
 use Rattle.rounds.specs.Model.{Slot, silent, said, Desk, slot_of, spoke, all_spoke, ready, beginning, begun, next, notes, noted, agreed, completes}

@@ -1,5 +1,5 @@
 -- What the tellings of a census make of a house: its objects stay, its tally only grows, and while it stays what is in use does.
-use Rattle.std.proofs.Common.{◌≡◌, ℕ, ◌+◌, ◌≤◌, Bool, true, false, cond, not, ◌&&◌, ◌||◌, eqb, ◌⊎◌, List, [], ◌∷◌, sym, refl, ap, ◌∙◌, ⊎_elim, arith}
+use Rattle.std.proofs.Common.{◌≡◌, ℕ, ◌+◌, ◌≤◌, Bool, true, false, cond, not, ◌&&◌, ◌||◌, eqb, List, [], ◌∷◌, sym, refl, ap, ◌∙◌, ⊎_elim, arith}
 use Rattle.std.proofs.lemmas.Bool.{and_parts, or_cases, or_left, cond-true, cond-false, eqb-true, eq-eqb, both_ways, cases_Bool}
 use Rattle.tables.specs.Model.{Heap}
 use Rattle.lines.specs.Listed.{Listed, line, is_of, listed, listed_in, marked, objects_in}

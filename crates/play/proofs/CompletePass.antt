@@ -1,10 +1,10 @@
 -- Each house tells in turn, again and again until nothing is newly marked: then all are calm.
-use Rattle.std.proofs.Common.{◌≡◌, ℕ, zero, suc, ◌+◌, ◌*◌, ◌<◌, ◌≤◌, Bool, true, false, cond, ◌&&◌, eqb, ◌⊎◌, List, [], length, sym, refl, ap, ◌∙◌, subst, ⊎_elim, arith}
+use Rattle.std.proofs.Common.{◌≡◌, ℕ, zero, suc, ◌+◌, ◌*◌, ◌<◌, ◌≤◌, Bool, true, false, cond, ◌&&◌, eqb, List, [], length, sym, refl, ap, ◌∙◌, subst, ⊎_elim, arith}
 use Rattle.std.proofs.lemmas.Bool.{eqb-true, eqb-false, cases_eq}
 use Rattle.wire.specs.declared.call.Call.TheVariants as call
 use Rattle.census.specs.Model.{Part, Told, untold, unanswered, calm}
 use Rattle.rounds.specs.Model.{idle}
-use Rattle.rules.specs.House.{House, census}
+use Rattle.rules.specs.House.{House}
 use Rattle.rules.specs.Step.{used}
 use Rattle.rules.proofs.Sound.{tally_few}
 use Rattle.play.specs.Play.{World, Entry, plays}

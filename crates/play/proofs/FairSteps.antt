@@ -7,7 +7,7 @@ use Rattle.tables.specs.Met.{Met}
 use Rattle.tables.specs.Model.{is_in, present, fields_of}
 use Rattle.lines.specs.Listed.{Listed, objects_in}
 use Rattle.promise.specs.House.{House, Used}
-use Rattle.promise.specs.Net.{Msg, Ask, Give, Word, Mark, Sweep, Net, Cleans, put, with, sends, heard}
+use Rattle.promise.specs.Net.{Msg, Ask, Give, Word, Mark, Sweep, Net, Cleans, put, with, sends}
 use Rattle.promise.specs.Promise.{Has}
 use Rattle.promise.proofs.Base.{true→T, true→mem, set_elim, same_at, mem→is_in}
 use Rattle.promise.proofs.Lines.{back, became_heard, became_joined, became_marked, became_swept, objects_in→mem}

@@ -1,7 +1,7 @@
 -- Lists of names and of objects that differ in their order only.
-use Rattle.std.proofs.Common.{◌≡◌, ℕ, ◌+◌, Bool, true, false, cond, ◌||◌, eqb, ◌⊎◌, List, [], ◌∷◌, ◌++◌, sym, refl, ap, ◌∙◌, subst, ⊎_elim, arith}
+use Rattle.std.proofs.Common.{◌≡◌, ℕ, ◌+◌, Bool, true, false, cond, ◌||◌, eqb, List, [], ◌∷◌, ◌++◌, sym, refl, ap, ◌∙◌, subst, ⊎_elim, arith}
 use Rattle.std.proofs.lemmas.Bool.{or_cases, or_left, or_right, eqb-true, eq-eqb, cases_Bool, both_ways, or_parts}
-use Rattle.tables.specs.Model.{Object, is_in, present, names, fields_of, changed, added}
+use Rattle.tables.specs.Model.{Object, is_in, present, fields_of, changed, added}
 use Rattle.tables.specs.Met.{everywhere}
 use Rattle.tables.proofs.Gathers.{added_why, added_new, added_old}
 use Rattle.tables.proofs.Reach.{is_in_append}

@@ -1,5 +1,5 @@
 -- The promise over every play, from the promise over every run of the relation.
-use Rattle.std.proofs.Common.{◌≡◌, ℕ, ◌<◌, ◌≤◌, Bool, true, leb, ◌⊎◌, List, [], ◌∷◌, Ok, Err, Result, sym, refl, ap, ◌∙◌, subst, inl, inr, ⊎_elim, arith}
+use Rattle.std.proofs.Common.{◌≡◌, ℕ, ◌<◌, ◌≤◌, Bool, true, leb, List, [], ◌∷◌, Ok, Err, Result, sym, refl, ap, ◌∙◌, subst, inl, inr, ⊎_elim, arith}
 use mathlib.Core.List.Memᴰ
 use mathlib.Core.List.{Memᴰ}
 use Rattle.std.proofs.lemmas.Bool.{and_parts, leb-true}
@@ -10,7 +10,6 @@ use Rattle.wire.specs.Names.{house, name}
 use Rattle.wire.specs.Format.{decode}
 use Rattle.lines.specs.Stamping.{stamp}
 use Rattle.rounds.specs.Model.{agreed, all_agree}
-use Rattle.rules.specs.House.{census}
 use Rattle.promise.specs.Net.{Msg, Give}
 use Rattle.promise.specs.Net as net
 use Rattle.promise.specs.Promise as relation

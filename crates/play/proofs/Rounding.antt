@@ -5,7 +5,6 @@ use mathlib.Core.List.Memᴰ
 use mathlib.Core.List.{Memᴰ}
 use Rattle.std.proofs.lemmas.List.{get_or-set_same, get_or-set_other}
 use Rattle.std.proofs.lemmas.Bool.{or_cases, or_parts, and_parts, and_from, not-true, not-false, leb-true, cases_Bool, both_ways, eqb-true, eqb-false, cond-true, cond-false, cond_both, false≢true, and_left}
-use Rattle.wire.specs.Names.{house}
 use Rattle.wire.specs.declared.message.Message.TheVariants as message
 use Rattle.wire.specs.declared.refusal.Refusal.TheVariants.{Misdelivered, OtherCensus, OutOfNumbers, WrongHouse}
 use Rattle.census.specs.Model.{asks}

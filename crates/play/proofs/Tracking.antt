@@ -1,5 +1,5 @@
 -- Every entry is some steps of the relation, or none: so whatever is promised of its runs holds of every play.
-use Rattle.std.proofs.Common.{◌≡◌, ℕ, zero, suc, ◌<◌, ◌≤◌, Bool, true, false, cond, ◌&&◌, ltb, ◌⊎◌, List, [], ◌∷◌, map, length, get_or, replicate, Ok, Err, Result, sym, refl, ap, ◌∙◌, subst, ⊎_elim, arith}
+use Rattle.std.proofs.Common.{◌≡◌, ℕ, zero, suc, ◌<◌, ◌≤◌, Bool, true, false, cond, ◌&&◌, ltb, List, [], ◌∷◌, map, length, get_or, replicate, Ok, Err, Result, sym, refl, ap, ◌∙◌, subst, ⊎_elim, arith}
 use mathlib.Core.List.Memᴰ
 use mathlib.Core.List.{Memᴰ}
 use Rattle.std.proofs.lemmas.Bool.{and_parts, ltb-true, or_cases}
@@ -14,7 +14,7 @@ use Rattle.tables.specs.Model.{is_in}
 use Rattle.tables.specs.Met.{everywhere}
 use Rattle.tables.proofs.Reach.{is_in_append}
 use Rattle.rules.specs.House as rules
-use Rattle.rules.specs.Step.{Letter, Said, Event, round, came, receives, read_as, step, event_of}
+use Rattle.rules.specs.Step.{Letter, Said, Event, came, receives, read_as, step, event_of}
 use Rattle.rules.specs.Sound.{Sound, Typed}
 use Rattle.rules.proofs.Fairness.{always_fair}
 use Rattle.rules.proofs.Sound.{sound_empty, sound_step, sent_bytes, sent_read, tally_few}

@@ -1,5 +1,5 @@
 -- Eight cases, each a script with every answer and with what the houses then hold, written down from the rules. Played, each comes out as it is written.
-use Rattle.std.specs.Prelude.{◌≡◌, ℕ, Bool, true, false, cond, ◌&&◌, List, [], ◌∷◌, ◌++◌, map, length, Ok, Err, Result, nat_lt, slice_index_or}
+use Rattle.std.specs.Prelude.{◌≡◌, ℕ, Bool, true, false, cond, ◌&&◌, List, [], ◌∷◌, ◌++◌, map, length, Ok, Err, nat_lt, slice_index_or}
 use Rattle.wire.specs.declared.call.Call.TheVariants as call
 use Rattle.wire.specs.declared.message.Message.TheVariants as message
 use Rattle.wire.specs.declared.refusal.Refusal.TheVariants.{Malformed}

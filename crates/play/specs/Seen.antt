@@ -1,5 +1,5 @@
 -- What the relation of steps sees of the houses and of what was sent.
-use Rattle.std.specs.Prelude.{ℕ, Bool, cond, List, [], ◌∷◌, ◌++◌, Ok, Err, Result}
+use Rattle.std.specs.Prelude.{ℕ, cond, List, [], ◌∷◌, ◌++◌, Ok, Err, Result}
 use Rattle.wire.specs.declared.refusal.Refusal.{Refusal}
 use Rattle.wire.specs.declared.message.Message.{Message}
 use Rattle.wire.specs.declared.message.Message.TheVariants as message
@@ -10,7 +10,7 @@ use Rattle.census.specs.Model as census
 use Rattle.rounds.specs.Model as rounds
 use Rattle.rules.specs.House as rules
 use Rattle.promise.specs.House.{House}
-use Rattle.promise.specs.Net.{Msg, Ask, Give, Word, Mark, Sweep, Net}
+use Rattle.promise.specs.Net.{Msg, Ask, Give, Word, Mark, Sweep}
 use Rattle.promise.specs.Rounds.{Part, Slot, none, some, Desk, Note, Answer, Round, Reply}
 use Rattle.promise.specs.Rounds as promise
 use Rattle.play.specs.Play.{World}

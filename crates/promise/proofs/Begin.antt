@@ -3,7 +3,7 @@ use Rattle.std.proofs.Common.{◌≡◌, ℕ, zero, suc, ◌<◌, ◌≤◌, Boo
 use mathlib.Core.List.Memᴰ
 use mathlib.Core.List.{Memᴰ}
 use Rattle.wire.specs.Names.{home}
-use Rattle.lines.specs.Listed.{Listed, marked}
+use Rattle.lines.specs.Listed.{Listed}
 use Rattle.promise.specs.Net.{Mark, Complete}
 use Rattle.promise.specs.Rounds.{Slot, none, some, Desk, idle, Note, Round, Reply, World, AllIn, census_of, Turn, Runs, Later}
 use Rattle.promise.proofs.Base.{last, none_below, same?}

@@ -12,7 +12,6 @@ use Rattle.promise.proofs.Base.{or_left, or_right, eq→eqb, cond_elim, same?, s
 use Rattle.promise.proofs.Lines.{Of, Single, single_same, of→isOf, isOf→of}
 use Rattle.promise.proofs.Inv.{view, used→mt, mt→used}
 use Rattle.promise.proofs.Meet.{mt_less}
-use Rattle.promise.proofs.Shift.{marks}
 use Rattle.promise.proofs.Effect.{Fixed, Quiet, effect_none, effect_still, join_effect, mark_effect, other_meets, mark_meets}
 use Rattle.promise.proofs.Alike.{alike_effect, alike_meets}
 use Rattle.promise.proofs.Turns.{ReplyOk, NoteOk, Held, Wider, wider_same, Heard, Truly, Grows}

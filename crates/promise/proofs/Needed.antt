@@ -3,7 +3,7 @@ use Rattle.std.proofs.Common.{◌≡◌, ℕ, zero, suc, ◌<◌, Bool, true, T,
 use mathlib.Core.List.Memᴰ
 use mathlib.Core.List.{Memᴰ}
 use Rattle.tables.specs.Met.{everywhere, Met, Some}
-use Rattle.tables.specs.Model.{Object, is_in, present, fields_of}
+use Rattle.tables.specs.Model.{Object, present, fields_of}
 use Rattle.lines.specs.Listed.{listed, listed_in, entered, marked, joined, heard_of, swept, objects_listed, objects_in}
 use Rattle.promise.specs.Net.{Word, Net, Uses, Cleans, start, sends}
 use Rattle.promise.specs.Rounds.{World, first, Turn, some}

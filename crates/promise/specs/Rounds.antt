@@ -3,7 +3,7 @@
 use Rattle.std.specs.Prelude.{◌≡◌, ℕ, suc, ◌+◌, ◌<◌, ◌≤◌, Bool, true, false, cond, not, ◌&&◌, ◌||◌, T, ◌⊎◌, List, [], ◌∷◌, ◌==◌, ◌≢◌}
 use mathlib.Core.List.{Memᴰ}
 use Rattle.wire.specs.Names.{home}
-use Rattle.tables.specs.Model.{is_in, present}
+use Rattle.tables.specs.Model.{is_in}
 use Rattle.lines.specs.Listed.{listed, listed_in, marked}
 use Rattle.promise.specs.House.{House, Used}
 use Rattle.promise.specs.Net.{Mark, Sweep, Net, start, with, sends, in_census, with_list, Uses, Cleans}

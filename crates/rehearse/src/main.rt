@@ -1,4 +1,7 @@
 // Up to four houses in one process, with standard input as the network between them.
+
+#![tactic(auto)]
+
 use anyhow::anyhow;
 use console::Player;
 use lines::Line;

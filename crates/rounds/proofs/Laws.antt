@@ -1,5 +1,5 @@
 -- What holds of the rounds, whatever is called.
-use Rattle.std.proofs.Common.{◌≡◌, ℕ, zero, suc, ◌-◌, ◌<◌, ◌≤◌, Bool, true, false, cond, not, ◌&&◌, ◌||◌, eqb, ltb, leb, ◌⊎◌, List, set, Decides, sym, refl, ap, ◌∙◌, inl, inr, ⊎_elim, arith, set-set}
+use Rattle.std.proofs.Common.{◌≡◌, ℕ, zero, suc, ◌-◌, ◌<◌, ◌≤◌, Bool, true, false, not, ◌&&◌, eqb, ltb, leb, ◌⊎◌, List, set, Decides, sym, refl, ap, ◌∙◌, inl, inr, ⊎_elim, arith, set-set}
 use Rattle.std.proofs.lemmas.List.{get_or-set_other}
 use Rattle.std.proofs.lemmas.Bool.{and_from, and_parts, cases_Bool, cases_eq, cond_both, eq-eqb, eqb-true, le-leb, leb-true, not-true, or_cases, true≢false}
 use Rattle.rounds.specs.Laws.{Answered, Still, Laws}

@@ -1,4 +1,7 @@
 // The rounds of the house that asks.
+
+#![tactic(auto)]
+
 mod answers;
 mod desk;
 mod rounds;

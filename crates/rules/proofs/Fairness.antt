@@ -1,5 +1,5 @@
 -- A step changes no house into another, and a refusal changes nothing.
-use Rattle.std.proofs.Common.{◌≡◌, ℕ, Bool, true, false, cond, not, ◌||◌, eqb, ltb, leb, List, [], ◌∷◌, is_ok, Ok, Err, Result, sym, refl, ap, ◌∙◌, arith}
+use Rattle.std.proofs.Common.{◌≡◌, ℕ, Bool, true, false, cond, not, ◌||◌, eqb, ltb, leb, List, [], is_ok, Ok, Err, Result, sym, refl, arith}
 use Rattle.std.proofs.lemmas.Bool.{ltb-false, eq-eqb}
 use Rattle.wire.specs.declared.message.Message.{Message}
 use Rattle.wire.specs.declared.message.Message.TheVariants as message
@@ -15,7 +15,7 @@ use Rattle.lines.specs.Stamping.{next_for, seen_from}
 use Rattle.census.specs.Model.{asks}
 use Rattle.rounds.specs.Model.{beginning}
 use Rattle.rules.specs.House.{House, self, houses, census, with_heap, with_part}
-use Rattle.rules.specs.Step.{Outcome, Event, make, link, unlink, load, drop, ask, collect, word, join, tell, round, came, Letter, refused, refuse_if, sends, quietly, in_census, caught_up, marks, stamped, took_it, replies_to, begins, receives, read_as, handed, authorised, step}
+use Rattle.rules.specs.Step.{Outcome, make, link, unlink, load, drop, ask, collect, word, join, tell, round, came, Letter, refused, refuse_if, sends, quietly, in_census, caught_up, marks, stamped, took_it, replies_to, begins, receives, read_as, handed, authorised}
 use Rattle.rules.specs.Laws.{Fair, AlwaysFair}
 
 pub by_cases : {X : Type 0} (b : Bool) → (b ≡ true → X) → (b ≡ false → X) → X

@@ -1,5 +1,5 @@
 -- What is computed as met is what is met, and so for collection and for the references in use.
-use Rattle.std.proofs.Common.{◌≡◌, ℕ, zero, suc, ◌≤◌, Bool, true, false, cond, not, eqb, ◌⊎◌, List, [], ◌∷◌, ◌++◌, length, Option, sym, refl, ap, ◌∙◌, subst, inl, inr, ⊎_elim, arith}
+use Rattle.std.proofs.Common.{◌≡◌, ℕ, zero, suc, ◌≤◌, Bool, true, false, not, eqb, ◌⊎◌, List, [], ◌∷◌, ◌++◌, length, sym, refl, ap, ◌∙◌, subst, inl, inr, ⊎_elim, arith}
 use Rattle.std.proofs.lemmas.Bool.{cases_Bool, or_cases, or_left, or_right, or_from, cond-true, cond-false, cond_both, and_parts, both_ways, not-true, eqb-true, eqb-false, eq-eqb, ne_eqb}
 use Rattle.std.specs.declared.option.Option.TheVariants as option
 use Rattle.wire.specs.Names.{home}

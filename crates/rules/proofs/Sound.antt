@@ -1,5 +1,5 @@
 -- Every step leaves a sound house sound, and what it sends can be read.
-use Rattle.std.proofs.Common.{◌≡◌, ℕ, ◌+◌, ◌*◌, ◌^◌, ◌<◌, ◌≤◌, min, Bool, true, false, cond, not, ◌&&◌, ◌||◌, eqb, ltb, leb, ◌⊎◌, List, [], ◌∷◌, map, length, is_ok, Ok, Err, Result, sym, refl, subst, inl, inr, ⊎_elim, arith}
+use Rattle.std.proofs.Common.{◌≡◌, ℕ, ◌+◌, ◌*◌, ◌^◌, ◌<◌, ◌≤◌, min, Bool, true, false, cond, not, ◌&&◌, ◌||◌, eqb, ltb, leb, List, [], ◌∷◌, map, length, is_ok, Ok, Err, Result, sym, refl, subst, inl, inr, ⊎_elim, arith}
 use mathlib.Core.List.{Memᴰ}
 use Rattle.std.specs.List.{AllByRecursion as All}
 use Rattle.std.proofs.lemmas.Bool.{and_parts, or_cases, or_left, or_right, or_parts, cond_both, eqb-true, eqb-false, eq-eqb, ltb-true, ltb-false, leb-false, not-true, not-false}
@@ -27,7 +27,7 @@ use Rattle.rules.specs.Sound.{SoundHeap, SoundLine, SoundList, SoundStamps, Soun
 use Rattle.rules.proofs.Fairness.{by_cases, up_home, up_census}
 use Rattle.rules.proofs.Reached.{refers}
 use Rattle.rules.proofs.SoundHeaps.{heap_new, heap_made, heap_linked, heap_unlinked, heap_rooted, heap_unrooted, heap_collected, field_named, used_named, references_fit, references_named}
-use Rattle.rules.proofs.SoundLists.{all_mem, one_line, list_heard, list_swept, list_joined, list_marked, list_entered, list_named, stale_heard, stale_swept, stale_few, stale_marked, stale_entered}
+use Rattle.rules.proofs.SoundLists.{all_mem, list_heard, list_swept, list_joined, list_marked, list_entered, list_named, stale_heard, stale_swept, stale_few, stale_marked, stale_entered}
 use Rattle.rules.proofs.SoundParts.{stamps_new, stamps_given, stamps_seen, stamps_heard, part_fresh, part_counting, part_stirring, part_replied, part_heard, part_tells, due_named, desk_idle, desk_begun, desk_noted}
 use Rattle.rules.proofs.SoundWords.{read_valid, no_bytes, names_bytes, written_bytes, length_names, word_rises}
 

@@ -1,6 +1,6 @@
 -- A message that comes twice in a row.
-use Rattle.std.proofs.Common.{◌≡◌, ℕ, ◌+◌, ◌<◌, min, max, Bool, true, false, cond, not, ◌&&◌, ◌||◌, eqb, ltb, leb, List, [], ◌∷◌, length, get_or, set, is_ok, Ok, Err, Result, sym, refl, ap, ◌∙◌, arith, get_or-set_same, set-set}
-use Rattle.std.proofs.lemmas.Bool.{eq-eqb, eqb-true, le-leb, le-ltb, ltb-true, ltb-false, not-false}
+use Rattle.std.proofs.Common.{◌≡◌, ℕ, ◌+◌, ◌<◌, min, max, Bool, true, false, cond, not, ◌||◌, eqb, ltb, leb, List, [], ◌∷◌, length, get_or, set, is_ok, Ok, Err, Result, sym, refl, ap, ◌∙◌, arith, get_or-set_same, set-set}
+use Rattle.std.proofs.lemmas.Bool.{eq-eqb, le-leb, le-ltb, ltb-true}
 use Rattle.wire.specs.declared.message.Message.{Message}
 use Rattle.wire.specs.declared.message.Message.TheVariants as message
 use Rattle.wire.specs.declared.refusal.Refusal.{Refusal}
@@ -9,10 +9,10 @@ use Rattle.wire.specs.Format.{decode, numbers}
 use Rattle.wire.specs.Names.{home}
 use Rattle.objects.specs.Calls.{take_answer}
 use Rattle.lines.specs.Listed.{Listed, is_of, listed, listed_in, marked, swept, heard_of, line}
-use Rattle.lines.specs.Stamping.{seen_from, heard_from, with_seen, with_heard}
+use Rattle.lines.specs.Stamping.{seen_from, heard_from}
 use Rattle.lines.specs.declared.stamps.Stamps.{Stamps}
 use Rattle.lines.proofs.Laws.{again}
-use Rattle.census.specs.Model.{Part, asks as isAsker, counting, hearing, polling, replied}
+use Rattle.census.specs.Model.{Part, asks as isAsker, counting, hearing, polling}
 use Rattle.census.proofs.Laws.{laws}
 use Rattle.rounds.specs.Model.{noted, completes}
 use Rattle.rounds.proofs.Laws.{noted_twice}

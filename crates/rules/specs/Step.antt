@@ -1,5 +1,5 @@
 -- What a house does at each call and each message: the answer, the messages that it sends, and all its tables afterwards.
-use Rattle.std.specs.Prelude.{ℕ, ◌+◌, max, Bool, true, false, cond, not, ◌&&◌, ◌||◌, List, [], ◌∷◌, ◌++◌, map, length, Ok, Err, Result, ◌==◌, nat_le, nat_lt}
+use Rattle.std.specs.Prelude.{ℕ, ◌+◌, max, Bool, cond, not, ◌&&◌, ◌||◌, List, [], ◌∷◌, ◌++◌, map, length, Ok, Err, Result, ◌==◌, nat_le, nat_lt}
 use Rattle.wire.specs.declared.call.Call.{Call}
 use Rattle.wire.specs.declared.call.Call.TheVariants as call
 use Rattle.wire.specs.declared.message.Message.{Message}
@@ -13,8 +13,8 @@ use Rattle.objects.specs.Calls.{make_answer, after_make, link_answer, after_link
 use Rattle.rules.specs.Executed.{collected, names_in_use, references_of}
 use Rattle.lines.specs.Listed.{Listed, listed, listed_in, entered, fits, belongs, marked, joined, heard_of, swept, objects_listed, objects_in}
 use Rattle.lines.specs.Stamping.{stamp, given_to, seen_from, heard_from, with_given, with_seen, with_heard, next_for}
-use Rattle.census.specs.Model.{Part, asks, fresh, counting, stirring, hearing, telling, due_of, replying, replied}
-use Rattle.rounds.specs.Model.{Desk, idle, beginning, begun, noted, completes}
+use Rattle.census.specs.Model.{asks, fresh, counting, stirring, hearing, telling, due_of, replying, replied}
+use Rattle.rounds.specs.Model.{idle, beginning, begun, noted, completes}
 use Rattle.lines.specs.declared.stamps.Stamps.{Stamps}
 use Rattle.wire.specs.declared.names.Stamp.{Stamp}
 use Rattle.rules.specs.House.{House, self, houses, census, with_heap, with_list, with_stamps, with_part, with_desk}

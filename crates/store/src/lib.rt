@@ -1,4 +1,7 @@
 // A house that owns its tables, and lends them for each call.
+
+#![tactic(auto)]
+
 mod sending;
 mod showing;
 mod steps;

@@ -1,10 +1,9 @@
 -- Lists with one element more or less.
-use Rattle.std.proofs.Common.{◌≡◌, ℕ, zero, suc, ◌+◌, ◌-◌, ◌<◌, ◌≤◌, Bool, true, false, cond, List, [], ◌∷◌, ◌++◌, map, length, get_or, take, drop, set, sym, refl, ap, ◌∙◌, subst, add-zero, add-one, arith}
-use mathlib.Core.List.{map-append}
+use Rattle.std.proofs.Common.{◌≡◌, ℕ, zero, suc, ◌+◌, ◌-◌, ◌<◌, ◌≤◌, Bool, true, false, cond, List, [], ◌∷◌, ◌++◌, map, length, get_or, take, drop, set, sym, refl, ap, ◌∙◌, add-zero, add-one, arith}
 use Rattle.std.proofs.lemmas.Bool.{cond-true, cond-false}
 use Rattle.tables.specs.Marks.{kept_by}
 use Rattle.std.specs.List.{remove, insert}
-use Rattle.std.proofs.lemmas.List.{take_more_set, take_more, take-map, drop-map, map_push, append_assoc, get_or-drop, length-take-le, drop-set-lt, drop-drop, length-set, drop_more}
+use Rattle.std.proofs.lemmas.List.{take_more_set, take_more, append_assoc, get_or-drop, length-take-le, drop-set-lt, drop-drop, length-set, drop_more}
 
 module _ {X : Type 0} where
   pub removed_push : (xs : List X) (i : ℕ) (y : X) → i < length xs → remove (xs ++ y ∷ []) i ≡ remove xs i ++ y ∷ []

@@ -1,5 +1,5 @@
 -- Names put into rising lists.
-use Rattle.std.proofs.Common.{◌≡◌, ℕ, zero, suc, ◌+◌, ◌-◌, ◌<◌, ◌≤◌, Bool, true, false, cond, not, ◌&&◌, ◌||◌, eqb, ltb, ◌⊎◌, List, [], ◌∷◌, ◌++◌, length, get_or, drop, sym, refl, ap, ◌∙◌, subst, inl, inr, ⊎_elim, add-one, arith}
+use Rattle.std.proofs.Common.{◌≡◌, ℕ, ◌+◌, ◌<◌, Bool, true, false, cond, eqb, ltb, ◌⊎◌, List, [], ◌∷◌, ◌++◌, length, get_or, drop, sym, refl, ap, ◌∙◌, subst, inl, inr, ⊎_elim, add-one}
 use Rattle.std.proofs.lemmas.List.{drop_more, drop-map}
 use Rattle.wire.specs.declared.names.Name.{Name}
 use Rattle.wire.specs.Names.{name}
@@ -8,7 +8,7 @@ use Rattle.tables.specs.Marks.{kept_by}
 use Rattle.tables.specs.Met.{everywhere}
 use Rattle.tables.specs.Shown.{numbers, object_of, objects_of}
 use Rattle.tables.proofs.Edits.{kept_skip}
-use Rattle.std.proofs.lemmas.Bool.{cases_Bool, cases_lt, cases_eq, or_cases, or_left, or_right, cond-true, cond-false, cond_both, both_ways, eqb-true, eq-eqb}
+use Rattle.std.proofs.lemmas.Bool.{or_cases, or_left, or_right, cond-true, cond_both, both_ways, eqb-true, eq-eqb}
 use Rattle.tables.specs.declared.which.Which.{Which}
 use Rattle.tables.specs.Model.{is_in, added, rising}
 use Rattle.tables.specs.Gathered.{wanted, gathered}

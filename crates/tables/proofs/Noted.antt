@@ -1,10 +1,10 @@
 -- Marks on the objects of a name, of several, and of a pass.
-use Rattle.std.proofs.Common.{◌≡◌, ℕ, zero, suc, ◌+◌, ◌-◌, ◌*◌, ◌<◌, ◌≤◌, Bool, true, false, cond, ◌||◌, eqb, ltb, ◌⊎◌, List, [], ◌∷◌, length, get_or, take, drop, set, sym, refl, ap, ◌∙◌, subst, inl, inr, ⊎_elim, arith}
+use Rattle.std.proofs.Common.{◌≡◌, ℕ, zero, suc, ◌+◌, ◌<◌, ◌≤◌, Bool, true, false, ◌||◌, eqb, ltb, ◌⊎◌, List, [], ◌∷◌, length, get_or, set, sym, refl, ap, ◌∙◌, inl, inr, ⊎_elim, arith}
 use Rattle.std.proofs.lemmas.List.{set-get_or}
-use Rattle.std.proofs.lemmas.Bool.{eq-eqb, ne_eqb, eqb-true, cases_Bool, cases_eq, and_parts, or_parts, ltb-true, ltb-false, lt-ltb, le-ltb, or_cases, or_left, or_right}
+use Rattle.std.proofs.lemmas.Bool.{eq-eqb, ne_eqb, eqb-true, cases_Bool, cases_eq, and_parts, or_parts, ltb-true, ltb-false, lt-ltb, or_cases, or_left, or_right}
 use Rattle.tables.specs.Model.{is_in, rising, above}
 use Rattle.tables.proofs.Places.{above_at, above_out}
-use Rattle.tables.specs.Marks.{count, noted, noted_all, passed}
+use Rattle.tables.specs.Marks.{count, noted}
 
 or_true : (m : Bool) → (m || true) ≡ true
 or_true true = refl

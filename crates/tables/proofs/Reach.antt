@@ -1,16 +1,16 @@
 -- What passes mark is what is met.
-use Rattle.std.proofs.Common.{◌≡◌, ℕ, zero, suc, ◌+◌, ◌-◌, ◌<◌, ◌≤◌, Bool, true, false, cond, ◌||◌, eqb, ltb, ◌⊎◌, List, [], ◌∷◌, ◌++◌, map, length, get_or, sym, refl, ap, ◌∙◌, subst, inl, inr, ⊎_elim, arith}
+use Rattle.std.proofs.Common.{◌≡◌, ℕ, zero, suc, ◌<◌, ◌≤◌, Bool, true, false, ◌||◌, eqb, List, [], ◌∷◌, ◌++◌, length, get_or, sym, refl, ap, ◌∙◌, subst, arith}
 use Rattle.std.proofs.lemmas.List.{length-map}
-use Rattle.std.proofs.lemmas.Bool.{cases_Bool, or_cases, or_left, or_right, cond-true}
+use Rattle.std.proofs.lemmas.Bool.{cond-true}
 use Rattle.tables.specs.declared.object.Object.{Object}
 use Rattle.tables.specs.Model as model
 use Rattle.tables.specs.Model.{is_in, present, fields_of, names, rising, below}
 use Rattle.tables.specs.Met.{Met, start, field}
-use Rattle.tables.specs.Marks.{count, noted_all, grown, passed, fields_in, field_lists}
+use Rattle.tables.specs.Marks.{count, noted_all, grown, passed, field_lists}
 use Rattle.tables.specs.Shown.{object_of, objects_of, names_in, name_in}
 use Rattle.tables.proofs.Places.{names_in_place, is_in_at, get_d_below}
 use Rattle.tables.proofs.Table.{fields_at}
-use Rattle.tables.proofs.Passes.{noted_all_why, noted_all_marks, noted_all_keeps, passed_sound, passed_keeps, passed_still}
+use Rattle.tables.proofs.Passes.{noted_all_marks, passed_sound, passed_keeps, passed_still}
 
 pub is_in_append : (o : ℕ) (xs ys : List ℕ) → is_in o (xs ++ ys) ≡ (is_in o xs || is_in o ys)
 is_in_append o [] ys = refl

@@ -1,5 +1,5 @@
 -- Marks on objects, by places.
-use Rattle.std.specs.Prelude.{ℕ, zero, suc, ◌+◌, ◌<◌, Bool, true, false, cond, ◌&&◌, ◌||◌, List, [], ◌∷◌, ◌++◌, map, length, Decides, ◌==◌, slice_index, slice_index_or}
+use Rattle.std.specs.Prelude.{ℕ, zero, suc, ◌+◌, ◌<◌, Bool, false, cond, ◌||◌, List, [], ◌∷◌, map, length, Decides, ◌==◌, slice_index, slice_index_or}
 use Rattle.tables.specs.declared.object.Object.{Object}
 use Rattle.tables.specs.Met.{Met}
 use Rattle.tables.specs.Shown.{object_of, objects_of, names_in}

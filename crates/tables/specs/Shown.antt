@@ -1,5 +1,5 @@
 -- What the tables in memory stand for.
-use Rattle.std.specs.Prelude.{ℕ, List, map, take, vec_items}
+use Rattle.std.specs.Prelude.{ℕ, List, map, take}
 use Rattle.wire.specs.declared.names.Name.{Name}
 use Rattle.tables.specs.declared.object.Object.{Object}
 use Rattle.tables.specs.Model as model

@@ -1,4 +1,7 @@
 // Tables in rising order of names: places in them, marks on the objects that are met, and names gathered from them.
+
+#![tactic(auto)]
+
 mod closing;
 mod fields;
 mod gathering;

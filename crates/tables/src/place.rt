@@ -33,8 +33,8 @@ impl Named for Object {
 
 // How many stand before the place of `o` in a table.
 pub fn place<X: Named>(table: &[X], o: Name) -> usize
-    requires { rising (map called table.now) ≡ true }
-    ensures { result ≡ below o.0 (map called table.now) }
+    requires { rising (map X.called table.now) ≡ true }
+    ensures { result ≡ below o.0 (map X.called table.now) }
 {
     let mut low = 0;
     let mut high = table.len();
@@ -51,8 +51,8 @@ pub fn place<X: Named>(table: &[X], o: Name) -> usize
 
 // The place of `o` in a table, if it is there.
 pub fn find<X: Named>(table: &[X], o: Name) -> Option<usize>
-    requires { rising (map called table.now) ≡ true }
-    ensures value { result ≡ place_of o.0 (map called table.now) }
+    requires { rising (map X.called table.now) ≡ true }
+    ensures value { result ≡ place_of o.0 (map X.called table.now) }
     ensures within { IfSome result (λ at. at < length table.now) }
 {
     let at = place(table, o);

@@ -1,4 +1,7 @@
 // The text language of the programs: words, decimal numbers, hexadecimal, and the lines that are made of them.
+
+#![tactic(auto)]
+
 mod calls;
 mod hex;
 mod lines;

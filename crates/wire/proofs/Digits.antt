@@ -1,5 +1,5 @@
 -- Numbers and the bytes that they are written with.
-use Rattle.std.proofs.Common.{◌≡◌, ℕ, ◌+◌, ◌*◌, ◌/◌, ◌%◌, ◌^◌, ◌<◌, ◌≤◌, sym, refl, ap, ◌∙◌, arith}
+use Rattle.std.proofs.Common.{◌≡◌, ℕ, ◌+◌, ◌*◌, ◌/◌, ◌%◌, ◌^◌, ◌<◌, arith}
 use native.Mathlib.Nat.{div-div-eq-div-mul}
 use Rattle.wire.specs.Format.{number}
 

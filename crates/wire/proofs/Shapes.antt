@@ -1,5 +1,5 @@
 -- Which bytes are read as a message: all of it, and nothing else.
-use Rattle.std.proofs.Common.{◌≡◌, ℕ, zero, suc, ◌+◌, ◌*◌, ◌/◌, ◌%◌, ◌^◌, ◌<◌, ◌≤◌, Bool, true, false, cond, ◌&&◌, eqb, ltb, leb, ◌⊎◌, List, [], ◌∷◌, ◌++◌, length, get_or, drop, Ok, Err, Result, sym, refl, ap, ◌∙◌, subst, inl, inr, ⊎_elim, add-zero, arith, length-append, drop-cons}
+use Rattle.std.proofs.Common.{◌≡◌, ℕ, zero, suc, ◌+◌, ◌*◌, ◌/◌, ◌%◌, ◌<◌, ◌≤◌, Bool, true, false, cond, ◌&&◌, eqb, ltb, ◌⊎◌, List, [], ◌∷◌, ◌++◌, length, drop, Ok, Err, Result, sym, refl, ap, ◌∙◌, subst, inl, inr, ⊎_elim, add-zero, arith, length-append, drop-cons}
 use Rattle.std.proofs.lemmas.List.{drop_all, get_or_append_left}
 use Rattle.std.proofs.lemmas.Bool.{eqb-true, leb-true, ltb-true, ne_eqb, and_parts, cases_eq, cond_both}
 use Rattle.wire.specs.declared.names.House.{House}
@@ -9,9 +9,8 @@ use Rattle.wire.specs.declared.message.Message.{Message}
 use Rattle.wire.specs.declared.message.Message.TheVariants.{Ask, Give, Word, Telling, Answer, Round, Reply, Complete}
 use Rattle.wire.specs.declared.refusal.Refusal.{Refusal}
 use Rattle.wire.specs.declared.refusal.Refusal.TheVariants.{Malformed}
-use Rattle.wire.specs.Names.{house, name, well_formed}
-use Rattle.wire.specs.Format.{byte_at, u16_at, u32_at, house_at, name_at, stamp_at, census_at, round_at, tally_at, checked, telling_of, ask_of, give_of, word_of, as_telling, as_answer, round_of, reply_of, complete_of, decode, by_first, encode, head_of, part_of, bytes4, bytes2, number, numbers, rising}
-use Rattle.wire.specs.Laws.{Bytes, Rises, ReadAs, Alone, Unique}
+use Rattle.wire.specs.Format.{byte_at, u16_at, u32_at, house_at, name_at, stamp_at, census_at, round_at, tally_at, checked, telling_of, ask_of, give_of, word_of, as_telling, as_answer, round_of, reply_of, complete_of, decode, encode, part_of, numbers, rising}
+use Rattle.wire.specs.Laws.{Bytes, Rises, Unique}
 use Rattle.wire.proofs.Digits.{digit1, digit2, digit3, digit4, high2, low2}
 
 -- What is known of bytes that are read as a message.

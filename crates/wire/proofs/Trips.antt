@@ -1,11 +1,11 @@
 -- What is written is read back.
-use Rattle.std.proofs.Common.{◌≡◌, ℕ, ◌+◌, ◌*◌, ◌/◌, ◌%◌, ◌^◌, ◌<◌, ◌≤◌, true, false, cond, ◌&&◌, eqb, ltb, leb, List, [], ◌∷◌, ◌++◌, length, drop, Ok, sym, refl, ap, ◌∙◌, arith}
+use Rattle.std.proofs.Common.{ℕ, ◌+◌, ◌*◌, true, false, List, ◌∷◌, ◌++◌, length, refl, arith}
 use Rattle.std.proofs.lemmas.Bool.{eq-eqb, le-leb, lt-ltb}
 use Rattle.wire.specs.declared.message.Message.{Message}
 use Rattle.wire.specs.declared.message.Message.TheVariants.{Ask, Give, Word, Telling, Answer, Round, Reply, Complete}
 use Rattle.wire.specs.Names.{home}
-use Rattle.wire.specs.Format.{decode, encode, numbers, rising, number, bytes4, bytes2, part_of}
-use Rattle.wire.specs.Laws.{Valid, Named, ReadAs, ReadsBack}
+use Rattle.wire.specs.Format.{bytes4, bytes2}
+use Rattle.wire.specs.Laws.{ReadsBack}
 use Rattle.wire.proofs.Digits.{four, two}
 
 pub reads_back : (m : Message) (objects : List ℕ) → ReadsBack m objects

@@ -1,12 +1,11 @@
 -- Messages as bytes: the high byte first; names, stamps, census and round numbers and tallies have four, houses one, counts two.
-use Rattle.std.specs.Prelude.{ℕ, ◌+◌, ◌*◌, ◌/◌, ◌%◌, Bool, true, false, cond, ◌&&◌, List, [], ◌∷◌, ◌++◌, length, drop, Ok, Err, Result, ◌==◌, nat_le, nat_lt, slice_index}
+use Rattle.std.specs.Prelude.{ℕ, ◌+◌, ◌*◌, ◌/◌, ◌%◌, Bool, true, cond, ◌&&◌, List, [], ◌∷◌, ◌++◌, length, drop, Ok, Err, Result, ◌==◌, nat_le, nat_lt, slice_index}
 use Rattle.wire.specs.declared.names.House.{House}
 use Rattle.wire.specs.declared.names.Name.{Name}
 use Rattle.wire.specs.declared.names.Stamp.{Stamp}
 use Rattle.wire.specs.declared.names.Census.{Census}
 use Rattle.wire.specs.declared.names.RoundNumber.{RoundNumber}
 use Rattle.wire.specs.declared.names.Tally.{Tally}
-use Rattle.wire.specs.declared.message.Part.{Part}
 use Rattle.wire.specs.declared.message.Message.{Message}
 use Rattle.wire.specs.declared.message.Message.TheVariants.{Ask, Give, Word, Telling, Answer, Round, Reply, Complete}
 use Rattle.wire.specs.declared.refusal.Refusal.{Refusal}

@@ -1,4 +1,7 @@
 // Names, calls, messages and refusals, and messages as bytes.
+
+#![tactic(auto)]
+
 mod call;
 mod message;
 mod names;

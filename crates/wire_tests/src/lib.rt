@@ -1,4 +1,7 @@
 // Messages by hand: each kind as the bytes that the format gives it, and bytes that are no message.
+
+#![tactic(auto)]
+
 #[cfg(test)]
 mod tests {
     use std::process::Abort;
@@ -102,7 +105,7 @@ mod tests {
     fn read_word(rt: HostRuntime) -> Result<(), Fail> {
         match wire::read(&[3, 1, 0, 0, 0, 0, 7, 0, 2, 0, 0, 0, 16, 0, 0, 1, 0], 2) {
             Ok(came) => {
-                assert!(rt; came.objects == &[0, 0, 0, 16, 0, 0, 1, 0]);
+                assert!(rt; came.objects == [0, 0, 0, 16, 0, 0, 1, 0].as_slice());
                 match came.message {
                     Message::Word {
                         from,

@@ -1,5 +1,5 @@
-use Rattle.std.proofs.Common.{◌≡◌, ◌+◌, ◌-◌, ◌*◌, ◌/◌, ◌<◌, ◌≤◌, length, sym, ap, ◌∙◌, subst, arith}
-use Rattle.wire.specs.Format.{numbers, u32_at}
+use Rattle.std.proofs.Common.{◌+◌, ◌-◌, ◌/◌, ◌<◌, length, sym, ◌∙◌, subst, arith}
+use Rattle.wire.specs.Format.{numbers}
 use Rattle.lines.proofs.Numbers.{Halved, length_numbers, numbers_long, numbers_at, halved_none, halved_up, halved_down, halved_all, is_in_at}
 use Rattle.lines.proofs.word.holds.Goals as goal
 
@@ -18,7 +18,7 @@ returns-then-here-object c =
     let middle = low + (high - low) / 2 in
     let w = c.loop-low.invariant.1.within in
     let m : middle < length (numbers bs) = omega (arith, c.loop-low-test.true) in
-    sym (is_in_at c.args.object.0 (numbers bs) middle m (sym (numbers_at bs middle m) ∙ sym c.number-at-here.ensures ∙ c.if-here-object.true))
+    sym (is_in_at c.args.object.0 (numbers bs) middle m (sym (numbers_at bs middle m) ∙ sym c.number_at-here.ensures ∙ c.if-here-object.true))
 
 pub loop-low-preserved-then-here-object-2 : goal.loop-low-preserved-then-here-object-2
 loop-low-preserved-then-here-object-2 c =
@@ -28,7 +28,7 @@ loop-low-preserved-then-here-object-2 c =
     let middle = low + (high - low) / 2 in
     let w = c.loop-low.invariant.1.within in
     let m : middle < length (numbers bs) = omega (arith, c.loop-low-test.true) in
-    let is = sym (numbers_at bs middle m) ∙ sym c.number-at-here.ensures in
+    let is = sym (numbers_at bs middle m) ∙ sym c.number_at-here.ensures in
     (c.loop-low.invariant.0, halved_up c.args.object.0 (numbers bs) low high middle c.requires c.loop-low.invariant.1 (omega (arith, c.loop-low-test.true)) (omega (arith, is, c.if-here-object-2.true)))
 
 pub loop-low-preserved : goal.loop-low-preserved
@@ -39,7 +39,7 @@ loop-low-preserved c =
     let middle = low + (high - low) / 2 in
     let w = c.loop-low.invariant.1.within in
     let m : middle < length (numbers bs) = omega (arith, c.loop-low-test.true) in
-    let is = sym (numbers_at bs middle m) ∙ sym c.number-at-here.ensures in
+    let is = sym (numbers_at bs middle m) ∙ sym c.number_at-here.ensures in
     (omega (arith, c.loop-low-test.true), halved_down c.args.object.0 (numbers bs) low high middle c.requires c.loop-low.invariant.1 (omega (arith, c.loop-low-test.true)) (omega (arith, is, c.if-here-object.false, c.if-here-object-2.false)))
 
 pub returns : goal.returns

@@ -1,4 +1,4 @@
-use Rattle.std.proofs.Common.{◌≡◌, ◌<◌, ◌≤◌, length, sym, refl, ap, ◌∙◌, arith, ltb-false, ltb-true}
+use Rattle.std.proofs.Common.{◌<◌, ◌≤◌, length, sym, ◌∙◌, arith, ltb-false, ltb-true}
 use Rattle.lines_tests.proofs.Parts.{rising_low, rising_far, rising_more, rising_none}
 use Rattle.lines_tests.proofs.words.rises.Goals as goal
 use Rattle.lines_tests.proofs.words.rises.Goals.{then-object-low-via-then-object-low, then-object-low-via-else-object-low+then-object-home}
@@ -8,14 +8,14 @@ returns-then-object-low c =
     let h : 4 ≤ length c.loop-rest.rest.now = omega (arith, ltb-false) in
     let xs = c.loop-rest.rest.now in
     sym (c.loop-rest.invariant ∙ elim c.then-object-low.branch [
-      | then-object-low-via-then-object-low w ↦ rising_low c.args.home.0 c.loop-rest.low c.from-be-bytes-object.result xs h c.from-be-bytes-object.ensures w.if-object-low.true
-      | then-object-low-via-else-object-low+then-object-home w ↦ rising_far c.args.home.0 c.loop-rest.low c.from-be-bytes-object.result xs h c.from-be-bytes-object.ensures w.if-object-home.true
+      | then-object-low-via-then-object-low w ↦ rising_low c.args.home.0 c.loop-rest.low c.from_be_bytes-object.result xs h c.from_be_bytes-object.ensures w.if-object-low.true
+      | then-object-low-via-else-object-low+then-object-home w ↦ rising_far c.args.home.0 c.loop-rest.low c.from_be_bytes-object.result xs h c.from_be_bytes-object.ensures w.if-object-home.true
     ])
 
 pub loop-rest-preserved : goal.loop-rest-preserved
 loop-rest-preserved c =
     let h : 4 ≤ length c.loop-rest.rest.now = omega (arith, ltb-false) in
-    c.loop-rest.invariant ∙ rising_more c.args.home.0 c.loop-rest.low c.from-be-bytes-object.result c.loop-rest.rest.now h c.from-be-bytes-object.ensures c.if-object-low.false c.if-object-home.false
+    c.loop-rest.invariant ∙ rising_more c.args.home.0 c.loop-rest.low c.from_be_bytes-object.result c.loop-rest.rest.now h c.from_be_bytes-object.ensures c.if-object-low.false c.if-object-home.false
 
 pub returns : goal.returns
 returns c =

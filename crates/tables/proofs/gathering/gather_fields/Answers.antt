@@ -1,5 +1,5 @@
-use Rattle.std.proofs.Common.{◌≡◌, ◌+◌, ◌<◌, true, false, [], ◌∷◌, ◌++◌, length, get_or, drop, vec_items, sym, refl, ap, ◌∙◌, subst, arith}
-use Rattle.std.proofs.lemmas.List.{drop_more, drop_all, drop-map}
+use Rattle.std.proofs.Common.{◌≡◌, drop, vec_items, sym, ap, ◌∙◌, arith}
+use Rattle.std.proofs.lemmas.List.{drop_all}
 use Rattle.tables.specs.Gathered.{gathered}
 use Rattle.tables.specs.Marks.{kept_by}
 use Rattle.tables.specs.Met.{everywhere}
@@ -8,7 +8,7 @@ use Rattle.tables.specs.Shown.{numbers, object_of, objects_of}
 use Rattle.tables.proofs.Edits.{kept_none}
 use Rattle.tables.proofs.Gathers.{gathered_end, rising_gathered, fields_turn_yes, fields_turn_no}
 use Rattle.tables.proofs.gathering.gather_fields.Goals as goal
-use Rattle.tables.proofs.gathering.gather_fields.Goals.{then-marks-i+in-ok-gather, else-marks-i}
+use Rattle.tables.proofs.gathering.gather_fields.Goals.{then-marks-i+in_ok-gather, else-marks-i}
 
 pub loop-i-preserved : goal.loop-i-preserved
 loop-i-preserved c =
@@ -20,9 +20,9 @@ loop-i-preserved c =
     let new = numbers (vec_items c.if-marks-i.out) in
     let all = gathered w (everywhere (kept_by ms (objects_of xs))) (numbers (vec_items c.args.out.now)) in
     elim c.if-marks-i.branch [
-      | then-marks-i+in-ok-gather v ↦ (
+      | then-marks-i+in_ok-gather v ↦ (
           let x = v.index-objects-i.result in
-          let g : new ≡ gathered w (object_of x).fields os = ap (λ t. numbers (vec_items t)) v.out-is ∙ v.in-ok-gather.ensures ∙ ap (λ fs. gathered w fs os) v.fields.ensures in (
+          let g : new ≡ gathered w (object_of x).fields os = ap (λ t. numbers (vec_items t)) v.out-is ∙ v.in_ok-gather.ensures ∙ ap (λ fs. gathered w fs os) v.fields.ensures in (
             ap rising g ∙ rising_gathered w (object_of x).fields os c.loop-i.invariant.0,
             fields_turn_yes w ms xs i os new all x (omega arith) c.loop-i-test.true v.index-objects-i.is v.if-marks-i.true g c.loop-i.invariant.1,
           ))

@@ -1,8 +1,8 @@
-use Rattle.std.proofs.Common.{◌≡◌, true, false, [], get_or, sym, refl, ap, ◌∙◌, subst}
+use Rattle.std.proofs.Common.{false, [], get_or, sym, ap, ◌∙◌}
 use Rattle.std.proofs.lemmas.List.{get_or-map}
 use Rattle.std.proofs.lemmas.Bool.{cond-true}
 use Rattle.tables.specs.Marks.{noted_all, fields_in, field_lists}
-use Rattle.tables.specs.Shown.{names_in, numbers}
+use Rattle.tables.specs.Shown.{names_in}
 use Rattle.tables.proofs.marking.grow.Goals as goal
 
 pub returns-then-marks-i : goal.returns-then-marks-i

@@ -1,4 +1,4 @@
-use Rattle.std.proofs.Common.{◌≡◌, ℕ, ◌+◌, ◌-◌, ◌<◌, ◌≤◌, Bool, true, false, ◌||◌, ltb, List, ◌++◌, length, get_or, sym, refl, ap, ◌∙◌, subst, ⊎_elim, arith}
+use Rattle.std.proofs.Common.{◌≡◌, ℕ, ◌<◌, ◌≤◌, true, false, ◌||◌, ◌++◌, length, get_or, sym, refl, ◌∙◌, subst, ⊎_elim, arith}
 use Rattle.std.proofs.lemmas.List.{length-map}
 use Rattle.std.proofs.lemmas.Bool.{ltb-true, ltb-false, both_ways, or_left, or_right, or_cases}
 use Rattle.tables.specs.Model.{is_in}
@@ -6,7 +6,7 @@ use Rattle.tables.specs.Met.{start}
 use Rattle.tables.specs.Marks.{noted_all, passed, count, field_lists}
 use Rattle.tables.specs.Shown.{numbers, names_in, name_in}
 use Rattle.tables.proofs.Noted.{count_bound}
-use Rattle.tables.proofs.Passes.{noted_all_why, noted_all_marks, noted_all_keeps, length_noted_all, length_passed, passed_still}
+use Rattle.tables.proofs.Passes.{noted_all_why, noted_all_marks, noted_all_keeps, length_noted_all, passed_still}
 use Rattle.tables.proofs.Reach.{sound_passed, begun_passed, met_marked, Sound, Begun, is_in_append}
 use Rattle.tables.proofs.marking.mark.Goals as goal
 

@@ -1,18 +1,18 @@
-use Rattle.std.proofs.Common.{◌≡◌, ◌<◌, ◌≤◌, true, false, ltb, map, length, get_or, set, sym, refl, ap, ◌∙◌, subst, arith}
+use Rattle.std.proofs.Common.{◌<◌, true, length, set, sym, ◌∙◌, arith}
 use Rattle.std.proofs.lemmas.List.{length-map}
 use Rattle.std.proofs.lemmas.Bool.{le-ltb, lt-ltb}
-use Rattle.tables.specs.Marks.{count, noted}
+use Rattle.tables.specs.Marks.{count}
 use Rattle.tables.specs.Shown.{names_in, name_in}
 use Rattle.tables.proofs.Places.{place_facts, place_missing}
 use Rattle.tables.proofs.Noted.{noted_out, noted_at, set_same, count_set}
 use Rattle.tables.proofs.marking.note.Goals as goal
 
-pub returns-in-default : goal.returns-in-default
-returns-in-default c =
+pub returns-in_default : goal.returns-in_default
+returns-in_default c =
     let ns = names_in c.args.objects.now in
     let ms = c.args.marks.now in
     record {
-      after = sym (noted_out c.args.p.0 ns ms (place_missing c.args.p.0 ns c.in-default.ensures.value));
+      after = sym (noted_out c.args.p.0 ns ms (place_missing c.args.p.0 ns c.in_default.ensures.value));
       added = sym (le-ltb (count ms) (count ms) (omega arith));
     }
 

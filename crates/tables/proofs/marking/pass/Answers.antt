@@ -1,5 +1,5 @@
-use Rattle.std.proofs.Common.{◌≡◌, ℕ, ◌+◌, ◌-◌, ◌<◌, ◌≤◌, Bool, true, false, length, sym, refl, ap, ◌∙◌, subst, arith, rules}
-use Rattle.tables.specs.Marks.{passed, count, field_lists}
+use Rattle.std.proofs.Common.{◌≤◌, sym, ◌∙◌, arith, rules}
+use Rattle.tables.specs.Marks.{count, field_lists}
 use Rattle.tables.specs.Shown.{names_in}
 use Rattle.tables.proofs.Noted.{added_yes, added_no}
 use Rattle.tables.proofs.Passes.{passed_from, pass_turn, rise}

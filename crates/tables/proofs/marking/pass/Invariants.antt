@@ -1,4 +1,4 @@
-use Rattle.std.proofs.Common.{◌≡◌, ℕ, ◌≤◌, ltb}
+use Rattle.std.proofs.Common.{◌≡◌, ◌≤◌, ltb}
 use Rattle.tables.specs.Marks.{passed, count, field_lists}
 use Rattle.tables.specs.Shown.{names_in}
 use Rattle.tables.proofs.marking.pass.Given as goal

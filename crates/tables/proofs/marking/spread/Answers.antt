@@ -1,8 +1,8 @@
-use Rattle.std.proofs.Common.{◌≡◌, ℕ, ◌+◌, ◌<◌, ◌≤◌, length, get_or, drop, sym, refl, ap, ◌∙◌, subst, arith, rules}
+use Rattle.std.proofs.Common.{◌+◌, ◌≤◌, get_or, drop, sym, ap, ◌∙◌, arith}
 use Rattle.std.proofs.lemmas.List.{drop_more, drop_all}
 use Rattle.wire.specs.Names.{name}
-use Rattle.tables.specs.Marks.{noted, noted_all, count}
-use Rattle.tables.specs.Shown.{number, numbers, names_in}
+use Rattle.tables.specs.Marks.{noted_all, count}
+use Rattle.tables.specs.Shown.{numbers, names_in}
 use Rattle.tables.proofs.Noted.{count_noted, added_yes, added_no}
 use Rattle.tables.proofs.marking.spread.Goals as goal
 use Rattle.tables.proofs.marking.spread.Goals.{then-note, else-note}

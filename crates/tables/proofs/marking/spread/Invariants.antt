@@ -1,4 +1,4 @@
-use Rattle.std.proofs.Common.{◌≡◌, ℕ, ◌≤◌, ltb, drop}
+use Rattle.std.proofs.Common.{◌≡◌, ◌≤◌, ltb, drop}
 use Rattle.tables.specs.Marks.{noted_all, count}
 use Rattle.tables.specs.Shown.{numbers, names_in}
 use Rattle.tables.proofs.marking.spread.Given as goal

@@ -1,7 +1,7 @@
-use Rattle.std.proofs.Common.{◌≡◌, ℕ, ◌<◌, ◌≤◌, true, false, List, map, length, get_or, vec_items, vec_len, sym, refl, ap, ◌∙◌, subst, arith}
+use Rattle.std.proofs.Common.{◌≡◌, ◌<◌, true, false, length, get_or, vec_items, sym, refl, ap, ◌∙◌, arith}
 use Rattle.std.specs.List.{insert}
 use Rattle.std.proofs.lemmas.List.{length-map}
-use Rattle.tables.specs.Model.{below, is_in, rising, added}
+use Rattle.tables.specs.Model.{below, is_in}
 use Rattle.tables.specs.Shown.{number, numbers}
 use Rattle.tables.proofs.Places.{below_within, is_in_at, is_in_none, added_in, added_out, read_map}
 use Rattle.tables.proofs.Edits.{map_inserted}
@@ -24,8 +24,8 @@ insert-requires c =
     let l = length-map (vec_items c.args.table.now) number in
     omega (arith, c.args.table.now.ok.0)
 
-pub returns-in-ok-insert : goal.returns-in-ok-insert
-returns-in-ok-insert c =
+pub returns-in_ok-insert : goal.returns-in_ok-insert
+returns-in_ok-insert c =
     let o = c.args.o.0 in
     let xs = vec_items c.args.table.now in
     let ns = numbers xs in
@@ -37,8 +37,8 @@ returns-in-ok-insert c =
           w.if-index-o.true (sym (read_map number xs at w.index.result.now (omega (arith, length-map xs number)) w.index.ensures) ∙ ap (λ k. get_or ns k 0) e ∙ f))
     ] in
     record {
-      items = ap numbers c.in-ok-insert.ensures.items ∙ map_inserted number xs at c.args.o ∙ ap (λ k. insert ns k o) e ∙ added_out o ns out;
-      capacity = c.in-ok-insert.ensures.capacity;
+      items = ap numbers c.in_ok-insert.ensures.items ∙ map_inserted number xs at c.args.o ∙ ap (λ k. insert ns k o) e ∙ added_out o ns out;
+      capacity = c.in_ok-insert.ensures.capacity;
       succeeds = λ _. refl;
     }
 

@@ -1,6 +1,6 @@
-use Rattle.std.proofs.Common.{◌≡◌, ◌+◌, ◌-◌, ◌/◌, ◌<◌, ◌≤◌, map, length, get_or, sym, ap, ◌∙◌, subst, arith}
+use Rattle.std.proofs.Common.{◌+◌, ◌-◌, ◌/◌, ◌<◌, map, length, arith}
 use Rattle.tables.specs.Model.{below}
-use Rattle.std.proofs.lemmas.List.{length-map, get_or-map}
+use Rattle.std.proofs.lemmas.List.{length-map}
 use Rattle.tables.proofs.Places.{below_within, below_less, below_more, read_map}
 use Rattle.tables.proofs.place.place.Goals as goal
 
@@ -10,8 +10,8 @@ loop-low-init g c =
     let xs = c.args.table.now in
     (omega arith, omega (arith, below_within c.args.o.0 (map f xs), length-map xs f), omega arith)
 
-pub loop-low-preserved-then-its-name-o : goal.loop-low-preserved-then-its-name-o
-loop-low-preserved-then-its-name-o g c =
+pub loop-low-preserved-then-its_name-o : goal.loop-low-preserved-then-its_name-o
+loop-low-preserved-then-its_name-o g c =
     let f = g.X.Named.called in
     let xs = c.args.table.now in
     let middle = c.loop-low.low + (c.loop-low.high - c.loop-low.low) / 2 in

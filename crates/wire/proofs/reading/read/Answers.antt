@@ -1,4 +1,4 @@
-use Rattle.std.proofs.Common.{◌≡◌, ℕ, ◌<◌, List, get_or, IfOk, Ok, Err, Result, subst, arith, w8, Fits, MatchResult}
+use Rattle.std.proofs.Common.{◌≡◌, ℕ, ◌<◌, List, IfOk, Ok, Err, Result, subst, arith, w8, Fits, MatchResult}
 use Rattle.wire.specs.declared.reading.Received.{Received}
 use Rattle.wire.specs.declared.refusal.Refusal.{Refusal}
 use Rattle.wire.specs.Format.{decode}
@@ -20,7 +20,7 @@ ascends n bs (Err e) h = tt
 pub returns : goal.returns
 returns c =
     record {
-      value = c.with-objects.ensures;
-      rises = ascends c.args.houses c.args.bytes.now c.with-objects.result c.with-objects.ensures;
-      unique = each c.args.houses c.args.bytes.now c.with-objects.result (λ k. below _ (c.type-inv.bytes k)) c.with-objects.ensures;
+      value = c.with_objects.ensures;
+      rises = ascends c.args.houses c.args.bytes.now c.with_objects.result c.with_objects.ensures;
+      unique = each c.args.houses c.args.bytes.now c.with_objects.result (λ k. below _ (c.type_inv.bytes k)) c.with_objects.ensures;
     }

@@ -8,23 +8,23 @@ use Rattle.lines.proofs.table.Lines.enter.Goals as goal
 
 pub returns-then-self : goal.returns-then-self
 returns-then-self c = record {
-  value = enter_full c.args.self.now c.args.object.0 c.args.holder.0 c.if-not-takes.ensures c.in-default.ensures.place c.if-self.true;
+  value = enter_full c.args.self.now c.args.object.0 c.args.holder.0 c.if-not-takes.ensures c.in_default.ensures.place c.if-self.true;
   after = refl;
   outlives = λ q. absurd (false≢true q);
   lent = search rules;
 }
 
 pub push-requires : goal.push-requires
-push-requires c = enter_ready c.args.self.now c.args.object.0 c.args.holder.0 c.if-not-takes.ensures c.args.stamp.0 c.args.census.0 c.in-default.ensures.place c.if-self.false
+push-requires c = enter_ready c.args.self.now c.args.object.0 c.args.holder.0 c.if-not-takes.ensures c.args.stamp.0 c.args.census.0 c.in_default.ensures.place c.if-self.false
 
-pub returns-in-default : goal.returns-in-default
-returns-in-default c =
+pub returns-in_default : goal.returns-in_default
+returns-in_default c =
     let t = c.args.self.now in
     let o = c.args.object.0 in
     let j = c.args.holder.0 in
     let s = c.args.stamp.0 in
     let n = c.args.census.0 in
-    let e = entered_new t o j s n c.push.new.self c.in-default.ensures.place c.push.ensures.pushed c.if-self.false in
+    let e = entered_new t o j s n c.push.new.self c.in_default.ensures.place c.push.ensures.pushed c.if-self.false in
     record {
       value = enter_new t o j c.if-not-takes.ensures c.if-self.false;
       after = e;

@@ -21,4 +21,4 @@ returns-else-self c =
     let o = c.args.object.0 in
     let j = c.args.holder.0 in
     let full : ltb (length (lines t)) t.room ≡ false = le-ltb (length (lines t)) t.room (rw length_rows c.if-self.false) in
-    c.is-some.ensures ∙ ap is_some c.find.ensures.place ∙ listed_place o j 0 (lines t) ∙ sym (or_false (listed o j (lines t))) ∙ ap (λ b. listed o j (lines t) || b) (sym full)
+    c.is_some.ensures ∙ ap is_some c.find.ensures.place ∙ listed_place o j 0 (lines t) ∙ sym (or_false (listed o j (lines t))) ∙ ap (λ b. listed o j (lines t) || b) (sym full)

@@ -1,4 +1,4 @@
-use Rattle.std.proofs.Common.{◌≡◌, sym, refl, ap, ◌∙◌, subst}
+use Rattle.std.proofs.Common.{◌≡◌, sym, ap, subst}
 use Rattle.lines.specs.Laws.{Raises}
 use Rattle.lines.specs.Listed.{joined}
 use Rattle.lines.specs.Lists.{lines, listing}
@@ -6,7 +6,7 @@ use Rattle.lines.proofs.Laws.{raises}
 use Rattle.lines.specs.Stamping.{heard_from}
 use Rattle.lines.proofs.Joining.{joining_none, joining_above, joining_heard, joining_all}
 use Rattle.lines.proofs.table.Lines.join.Goals as goal
-use Rattle.lines.proofs.table.Lines.join.Goals.{then-is-unheard, else-is-unheard}
+use Rattle.lines.proofs.table.Lines.join.Goals.{then-is_unheard, else-is_unheard}
 
 pub loop-i-init : goal.loop-i-init
 loop-i-init c = joining_none
@@ -15,9 +15,9 @@ pub loop-i-preserved : goal.loop-i-preserved
 loop-i-preserved c =
     let e = listing c.row-line.result in
     let is = ap listing c.row-line.ensures in
-    elim c.if-is-unheard.branch [
-      | then-is-unheard w ↦ joining_above c.loop-i.invariant c.loop-i-test.true _ _ w.self-is w.renumber.ensures.numbered w.renumber.ensures.lent e is w.if-is-unheard.ensures
-      | else-is-unheard w ↦ joining_heard c.loop-i.invariant c.loop-i-test.true _ w.self-is e is w.if-is-unheard.ensures
+    elim c.if-is_unheard.branch [
+      | then-is_unheard w ↦ joining_above c.loop-i.invariant c.loop-i-test.true _ _ w.self-is w.renumber.ensures.numbered w.renumber.ensures.lent e is w.if-is_unheard.ensures
+      | else-is_unheard w ↦ joining_heard c.loop-i.invariant c.loop-i-test.true _ w.self-is e is w.if-is_unheard.ensures
     ]
 
 pub returns : goal.returns

@@ -1,4 +1,4 @@
-use Rattle.std.proofs.Common.{◌≡◌, ◌+◌, Some, None, sym, ap, ◌∙◌, arith}
+use Rattle.std.proofs.Common.{◌≡◌, ◌+◌, Some, sym, ap, ◌∙◌, arith}
 use Rattle.lines.specs.Lists.{shown, row_of}
 use Rattle.lines.proofs.Rows.{line_at_none, line_at_row}
 use Rattle.lines.proofs.table.Lines.line.Goals as goal

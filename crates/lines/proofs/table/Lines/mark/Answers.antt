@@ -2,10 +2,10 @@ use Rattle.std.proofs.Common.{◌∙◌, rules}
 use Rattle.lines.proofs.Marks.{mark_none, mark_found, marked_new, marked_old}
 use Rattle.lines.proofs.table.Lines.mark.Goals as goal
 
-pub returns-in-default : goal.returns-in-default
-returns-in-default c = record {
-  value = mark_none c.args.self.now c.args.census.0 c.args.object.0 c.args.holder.0 c.in-default.ensures.place;
-  after = marked_new c.args.self.now c.args.census.0 c.args.object.0 c.args.holder.0 c.in-default.ensures.place;
+pub returns-in_default : goal.returns-in_default
+returns-in_default c = record {
+  value = mark_none c.args.self.now c.args.census.0 c.args.object.0 c.args.holder.0 c.in_default.ensures.place;
+  after = marked_new c.args.self.now c.args.census.0 c.args.object.0 c.args.holder.0 c.in_default.ensures.place;
   lent = search rules;
 }
 

@@ -1,7 +1,7 @@
 use Rattle.std.proofs.Common.{◌≡◌, ◌-◌, take, ap, ◌∙◌, arith}
 use Rattle.lines.specs.Listed.{objects_listed}
 use Rattle.lines.specs.Columns.{rows}
-use Rattle.lines.specs.Lists.{lines, row_of}
+use Rattle.lines.specs.Lists.{row_of}
 use Rattle.lines.proofs.Gathering.{gathering_none, gathering_more, gathering_all, listed_more, listed_none}
 use Rattle.lines.proofs.table.Lines.objects.Goals as goal
 

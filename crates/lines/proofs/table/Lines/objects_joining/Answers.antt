@@ -5,7 +5,7 @@ use Rattle.lines.specs.Lists.{row_of, listing}
 use Rattle.lines.specs.Stamping.{heard_from}
 use Rattle.lines.proofs.Gathering.{gathering_none, gathering_more, gathering_same, gathering_all, joining_more, joining_other, joining_none}
 use Rattle.lines.proofs.table.Lines.objects_joining.Goals as goal
-use Rattle.lines.proofs.table.Lines.objects_joining.Goals.{then-is-joining, else-is-joining}
+use Rattle.lines.proofs.table.Lines.objects_joining.Goals.{then-is_joining, else-is_joining}
 
 pub loop-i-init : goal.loop-i-init
 loop-i-init c =
@@ -20,17 +20,17 @@ loop-i-preserved c =
     let h = c.loop-i-test.true in
     let heard = heard_from c.args.stamps.now in
     let is : joins c.args.census.0 heard (listing c.row-line.result) ≡ joins c.args.census.0 heard (row_of t i) = ap (λ l. joins c.args.census.0 heard (listing l)) c.row-line.ensures in
-    elim c.if-is-joining.branch [
-      | then-is-joining w ↦ (
+    elim c.if-is_joining.branch [
+      | then-is_joining w ↦ (
         omega (arith, w.count-is, c.loop-i.invariant.0),
         rw (w.into-is, w.count-is, c.row-line.ensures)
             (gathering_more _ _ _ _ _ _ c.loop-i.invariant.1 (omega (arith, t.most, t.within, c.loop-i.invariant.0))
-            (joining_more (row_of t) i t.len c.args.census.0 heard h (sym is ∙ sym w.if-is-joining.ensures))),
+            (joining_more (row_of t) i t.len c.args.census.0 heard h (sym is ∙ sym w.if-is_joining.ensures))),
       )
-      | else-is-joining w ↦ (
+      | else-is_joining w ↦ (
         omega (arith, w.count-is, c.loop-i.invariant.0),
         rw (w.into-is, w.count-is)
-            (gathering_same _ _ _ _ _ c.loop-i.invariant.1 (joining_other (row_of t) i t.len c.args.census.0 heard h (sym is ∙ sym w.if-is-joining.ensures))),
+            (gathering_same _ _ _ _ _ c.loop-i.invariant.1 (joining_other (row_of t) i t.len c.args.census.0 heard h (sym is ∙ sym w.if-is_joining.ensures))),
       )
     ]
 

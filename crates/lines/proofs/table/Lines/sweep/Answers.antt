@@ -5,7 +5,7 @@ use Rattle.lines.specs.Lists.{lines, listing}
 use Rattle.lines.proofs.Laws.{leaves_unheard}
 use Rattle.lines.proofs.Closing.{turn_none, turn_gone, turn_kept, turn_ready, turn_all, swept_closed}
 use Rattle.lines.proofs.table.Lines.sweep.Goals as goal
-use Rattle.lines.proofs.table.Lines.sweep.Goals.{then-not-is-other, else-not-is-other}
+use Rattle.lines.proofs.table.Lines.sweep.Goals.{then-not-is_other, else-not-is_other}
 
 pub loop-i-init : goal.loop-i-init
 loop-i-init c = turn_none refl
@@ -14,13 +14,13 @@ pub loop-i-preserved : goal.loop-i-preserved
 loop-i-preserved c =
     let a = c.args.self.now in
     let e = listing c.row-line.result in
-    elim c.if-not-is-other.branch [
-      | then-not-is-other w ↦
+    elim c.if-not-is_other.branch [
+      | then-not-is_other w ↦
           turn_kept c.loop-i.invariant c.loop-i-test.true e (ap listing c.row-line.ensures) _ _ w.self-is w.push.ensures.pushed w.push.ensures.lent a.within a.alone
-          w.if-not-is-other.ensures
-      | else-not-is-other w ↦
+          w.if-not-is_other.ensures
+      | else-not-is_other w ↦
           turn_gone c.loop-i.invariant c.loop-i-test.true e (ap listing c.row-line.ensures) _ w.self-is
-          w.if-not-is-other.ensures
+          w.if-not-is_other.ensures
     ]
 
 pub push-requires : goal.push-requires

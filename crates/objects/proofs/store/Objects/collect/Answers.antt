@@ -1,4 +1,4 @@
-use Rattle.std.proofs.Common.{◌≡◌, ℕ, ◌<◌, ◌≤◌, true, false, List, ◌++◌, length, get_or, take, drop, vec_items, vec_len, vec_capacity, sym, refl, ap, ◌∙◌, subst, arith}
+use Rattle.std.proofs.Common.{◌≡◌, ◌++◌, length, take, drop, vec_items, sym, refl, ap, ◌∙◌, subst, arith}
 use Rattle.std.proofs.lemmas.List.{length-map, take_at}
 use Rattle.tables.specs.Model.{rising, all_own, names, is_in, fields_well}
 use Rattle.tables.specs.Marks.{kept_by, Marked}
@@ -21,50 +21,42 @@ mark-requires c =
       clear = λ k. clear_all 1024 k;
     }
 
-pub invariant-of-self : goal.invariant-of-self
-invariant-of-self c =
+pub invariant_of-self : goal.invariant_of-self
+invariant_of-self c =
     let s = c.args.self.now in
     let xs = vec_items s.objects in
     let ms = c.mark.new.marks in
-    let ws = c.close-up-kept.new.objects in
-    let r = c.close-up-kept.result in
-    let lw : length ws ≡ s.objects.len = c.close-up-kept.auto.objects ∙ c.deref-mut.ensures.len in
+    let ws = c.close_up-kept.new.objects in
+    let r = c.close_up-kept.result in
+    let lw : length ws ≡ s.objects.len = c.close_up-kept.auto.objects ∙ c.deref_mut.ensures.len in
     let e : vec_items c.truncate.new.self ≡ kept_by ms xs =
-    c.truncate.ensures.items ∙ ap (take r) (take_at ws (drop (length ws) s.objects.items) s.objects.len lw) ∙ c.close-up-kept.ensures.front ∙ ap (kept_by ms) c.deref-mut.ensures.value in
-    let ns : names_in (vec_items c.truncate.new.self) ≡ kept_by ms (names_in xs) = ap names_in e ∙ map_kept name_in ms xs in (
-      s.sixteen,
-      (
-        s.inside,
-        (
-          omega (arith, c.truncate.new.self.ok.0, ap length e, length_kept ms xs, s.objects.ok.0, s.few),
-          (
-            omega (arith, c.truncate.ensures.capacity, s.room),
-            (
-              ap rising ns ∙ rising_kept ms (names_in xs) s.ordered,
-              (
-                ap (all_own s.home.0 s.made) ns ∙ own_kept s.home.0 s.made ms (names_in xs) s.own,
-                (
-                  s.fewRoots,
-                  (s.roomRoots, (s.orderedRoots, (s.wellRoots, (ap (fields_well s.houses) (ap objects_of e ∙ map_kept object_of ms xs) ∙ kept_well s.houses ms (objects_of xs) s.wellFields, tt)))),
-                ),
-              ),
-            ),
-          ),
-        ),
-      ),
-    )
+    c.truncate.ensures.items ∙ ap (take r) (take_at ws (drop (length ws) s.objects.items) s.objects.len lw) ∙ c.close_up-kept.ensures.front ∙ ap (kept_by ms) c.deref_mut.ensures.value in
+    let ns : names_in (vec_items c.truncate.new.self) ≡ kept_by ms (names_in xs) = ap names_in e ∙ map_kept name_in ms xs in
+    record {
+      sixteen = s.sixteen;
+      inside = s.inside;
+      few = omega (arith, c.truncate.new.self.ok.0, ap length e, length_kept ms xs, s.objects.ok.0, s.few);
+      room = omega (arith, c.truncate.ensures.capacity, s.room);
+      ordered = ap rising ns ∙ rising_kept ms (names_in xs) s.ordered;
+      own = ap (all_own s.home.0 s.made) ns ∙ own_kept s.home.0 s.made ms (names_in xs) s.own;
+      few_roots = s.few_roots;
+      room_roots = s.room_roots;
+      ordered_roots = s.ordered_roots;
+      well_roots = s.well_roots;
+      well_fields = ap (fields_well s.houses) (ap objects_of e ∙ map_kept object_of ms xs) ∙ kept_well s.houses ms (objects_of xs) s.well_fields;
+    }
 
 pub returns : goal.returns
 returns c =
     let s = c.args.self.now in
     let xs = vec_items s.objects in
     let ms = c.mark.new.marks in
-    let ws = c.close-up-kept.new.objects in
-    let r = c.close-up-kept.result in
+    let ws = c.close_up-kept.new.objects in
+    let r = c.close_up-kept.result in
     let from = numbers (vec_items s.roots) ++ numbers c.args.listed.now in
-    let lw : length ws ≡ s.objects.len = c.close-up-kept.auto.objects ∙ c.deref-mut.ensures.len in
+    let lw : length ws ≡ s.objects.len = c.close_up-kept.auto.objects ∙ c.deref_mut.ensures.len in
     let e : vec_items c.truncate.new.self ≡ kept_by ms xs =
-    c.truncate.ensures.items ∙ ap (take r) (take_at ws (drop (length ws) s.objects.items) s.objects.len lw) ∙ c.close-up-kept.ensures.front ∙ ap (kept_by ms) c.deref-mut.ensures.value in
+    c.truncate.ensures.items ∙ ap (take r) (take_at ws (drop (length ws) s.objects.items) s.objects.len lw) ∙ c.close_up-kept.ensures.front ∙ ap (kept_by ms) c.deref_mut.ensures.value in
     let marked : Marked xs from ms = subst (λ ys. Marked ys from ms) c.deref.ensures.value (subst (λ rs. Marked c.deref.result.now (numbers rs ++ numbers c.args.listed.now) ms) c.deref-2.ensures.value c.mark.ensures) in
     let lm : length ms ≡ 1024 = c.mark.auto.marks in
     let ln = length-map xs name_in in

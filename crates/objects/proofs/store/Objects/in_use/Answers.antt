@@ -1,4 +1,4 @@
-use Rattle.std.proofs.Common.{◌≡◌, true, false, ◌++◌, vec_items, sym, refl, ap, ◌∙◌, subst, arith}
+use Rattle.std.proofs.Common.{◌++◌, vec_items, refl, ap, ◌∙◌, subst, arith}
 use Rattle.std.proofs.lemmas.Result.{IfOk-weaker}
 use Rattle.tables.specs.Model.{rising}
 use Rattle.tables.specs.Marks.{Marked}
@@ -34,6 +34,6 @@ returns c =
     c.references.ensures in
     record {
       names = lists;
-      well = IfOk-weaker c.references.result (λ v. Lists (numbers (vec_items v)) (FarInUse (heap_of s) from)) (λ v. Well (heap_of s) from → Well (heap_of s) (numbers (vec_items v))) (λ v l w o e. met_well (heap_of s) from s.wellRoots s.wellFields w o (l.only o e).1) lists;
+      well = IfOk-weaker c.references.result (λ v. Lists (numbers (vec_items v)) (FarInUse (heap_of s) from)) (λ v. Well (heap_of s) from → Well (heap_of s) (numbers (vec_items v))) (λ v l w o e. met_well (heap_of s) from s.well_roots s.well_fields w o (l.only o e).1) lists;
       sole = IfOk-weaker c.references.result (λ v. Lists (numbers (vec_items v)) (FarInUse (heap_of s) from)) (λ v. Sole (numbers (vec_items v)) (FarInUse (heap_of s) from)) (λ v l. sole (numbers (vec_items v)) (FarInUse (heap_of s) from) l) lists;
     }

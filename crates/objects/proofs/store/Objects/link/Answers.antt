@@ -1,10 +1,10 @@
-use Rattle.std.proofs.Common.{◌≡◌, ◌<◌, ◌≤◌, true, false, leb, [], ◌∷◌, ◌++◌, length, Ok, vec_items, vec_len, sym, refl, ap, ◌∙◌, arith, rules}
+use Rattle.std.proofs.Common.{◌≡◌, true, false, leb, [], ◌∷◌, ◌++◌, length, Ok, sym, ap, ◌∙◌, arith, rules}
 use Rattle.std.proofs.lemmas.Bool.{le-leb, lt-leb}
-use Rattle.tables.specs.Model.{fields_of, is_in, present, changed, all_well}
+use Rattle.tables.specs.Model.{fields_of, changed, all_well}
 use Rattle.tables.specs.Shown.{object_of}
 use Rattle.objects.specs.Calls.{heap_of, with_objects, link_answer, linked_to}
 use Rattle.tables.proofs.Well.{well_append, well_one, well_fields}
-use Rattle.objects.proofs.Helds.{Held, held_facts, held_name, held_fields, put_held, accepted}
+use Rattle.objects.proofs.Helds.{held_facts, held_name, held_fields, put_held, accepted}
 use Rattle.tables.proofs.Table.{length_fields}
 use Rattle.objects.proofs.store.Objects.link.Goals as goal
 
@@ -27,7 +27,7 @@ put-requires c =
     record {
       within = c.in-Some.ensures.within;
       same = h.called ∙ sym (held_name s o c.in-Some.at h c.index.result.now c.index.ensures) ∙ ap (λ y. y.name) (sym c.linked.ensures);
-      well = ap (λ y. all_well s.houses y.fields) c.linked.ensures ∙ well_append s.houses (object_of x).fields (c.args.p.0 ∷ []) (ap (all_well s.houses) (sym (held_fields s o c.in-Some.at h x c.index.ensures)) ∙ well_fields s.houses o (heap_of s).objects s.wellFields) (well_one s.houses c.args.p.0 (search rules));
+      well = ap (λ y. all_well s.houses y.fields) c.linked.ensures ∙ well_append s.houses (object_of x).fields (c.args.p.0 ∷ []) (ap (all_well s.houses) (sym (held_fields s o c.in-Some.at h x c.index.ensures)) ∙ well_fields s.houses o (heap_of s).objects s.well_fields) (well_one s.houses c.args.p.0 (search rules));
     }
 
 pub returns : goal.returns

@@ -1,8 +1,8 @@
-use Rattle.std.proofs.Common.{◌≡◌, ◌<◌, ◌≤◌, true, false, length, Ok, Err, sym, refl, ap, ◌∙◌, arith, rules}
+use Rattle.std.proofs.Common.{◌≡◌, ◌<◌, ◌≤◌, true, false, length, Err, sym, ap, ◌∙◌, arith, rules}
 use Rattle.std.proofs.lemmas.List.{length-map}
 use Rattle.wire.specs.declared.refusal.Refusal.TheVariants.{NoField}
 use Rattle.tables.specs.Model.{fields_of, is_in}
-use Rattle.tables.specs.Shown.{number, numbers}
+use Rattle.tables.specs.Shown.{number}
 use Rattle.objects.specs.Calls.{heap_of, load_answer, root_answer, rooted, unless_refused}
 use Rattle.tables.proofs.Places.{first_none, first_there}
 use Rattle.objects.proofs.Helds.{held_facts, held_fields, refused_so}
@@ -37,6 +37,6 @@ returns c =
     let there : is_in p (fields_of o (heap_of s).objects) ≡ true = ap (is_in p) (f ∙ sym c.fields.ensures) ∙ t.0 in
     let e : root_answer p (heap_of s) ≡ load_answer o p (heap_of s) = search rules in
     record {
-      value = c.add-root.ensures.value ∙ e;
-      after = c.add-root.ensures.after ∙ ap (λ r. unless_refused r (rooted p (heap_of s)) (heap_of s)) (c.add-root.ensures.value ∙ e);
+      value = c.add_root.ensures.value ∙ e;
+      after = c.add_root.ensures.after ∙ ap (λ r. unless_refused r (rooted p (heap_of s)) (heap_of s)) (c.add_root.ensures.value ∙ e);
     }

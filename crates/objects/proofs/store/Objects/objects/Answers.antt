@@ -1,4 +1,4 @@
-use Rattle.std.proofs.Common.{◌≡◌, vec_items, sym, ap, ◌∙◌}
+use Rattle.std.proofs.Common.{vec_items, ap, ◌∙◌}
 use Rattle.tables.specs.Model.{names, rising}
 use Rattle.tables.specs.Shown.{objects_of}
 use Rattle.objects.proofs.Laws.{single}

@@ -1,5 +1,4 @@
-use Rattle.std.proofs.Common.{◌≡◌, true, [], vec_items, sym, refl, ap, ◌∙◌, subst, arith}
-use Rattle.tables.specs.Gathered.{gathered}
+use Rattle.std.proofs.Common.{◌≡◌, true, vec_items, ap, ◌∙◌, arith}
 use Rattle.tables.specs.Model.{rising}
 use Rattle.tables.specs.Shown.{numbers}
 use Rattle.tables.proofs.Gathers.{rising_gathered}
@@ -11,16 +10,16 @@ gather-requires-2 c =
     let rs = numbers c.deref.result.now in
     let os = numbers (vec_items c.new-out.result) in
     let r0 : rising os ≡ true = ap (λ xs. rising (numbers xs)) c.new-out.ensures.items in
-    ap rising c.in-ok-gather.ensures ∙ rising_gathered w rs os r0
+    ap rising c.in_ok-gather.ensures ∙ rising_gathered w rs os r0
 
-pub gather-fields-requires : goal.gather-fields-requires
-gather-fields-requires c =
+pub gather_fields-requires : goal.gather_fields-requires
+gather_fields-requires c =
     let w = c.args.which in
     let rs = numbers c.deref.result.now in
     let os = numbers (vec_items c.new-out.result) in
     let r0 : rising os ≡ true = ap (λ xs. rising (numbers xs)) c.new-out.ensures.items in
-    let r1 : rising (numbers (vec_items c.gather.new.out)) ≡ true = ap rising c.in-ok-gather.ensures ∙ rising_gathered w rs os r0 in
+    let r1 : rising (numbers (vec_items c.gather.new.out)) ≡ true = ap rising c.in_ok-gather.ensures ∙ rising_gathered w rs os r0 in
     record {
-      ordered = ap rising c.in-ok-gather-2.ensures ∙ rising_gathered w (numbers c.args.from.now) (numbers (vec_items c.gather.new.out)) r1;
+      ordered = ap rising c.in_ok-gather-2.ensures ∙ rising_gathered w (numbers c.args.from.now) (numbers (vec_items c.gather.new.out)) r1;
       room = omega (arith, c.deref-2.ensures.len, c.args.self.now.few, c.requires);
     }

@@ -19,6 +19,6 @@ returns c =
     c.references.ensures in
     record {
       names = lists;
-      well = IfOk-weaker c.references.result (λ v. Lists (numbers (vec_items v)) (Refers (heap_of s) c.args.house.0)) (λ v. Well (heap_of s) (numbers (vec_items v))) (λ v l o e. refers_well (heap_of s) s.wellRoots s.wellFields o (l.only o e).1) lists;
+      well = IfOk-weaker c.references.result (λ v. Lists (numbers (vec_items v)) (Refers (heap_of s) c.args.house.0)) (λ v. Well (heap_of s) (numbers (vec_items v))) (λ v l o e. refers_well (heap_of s) s.well_roots s.well_fields o (l.only o e).1) lists;
       sole = IfOk-weaker c.references.result (λ v. Lists (numbers (vec_items v)) (Refers (heap_of s) c.args.house.0)) (λ v. Sole (numbers (vec_items v)) (Refers (heap_of s) c.args.house.0)) (λ v l. sole (numbers (vec_items v)) (Refers (heap_of s) c.args.house.0) l) lists;
     }

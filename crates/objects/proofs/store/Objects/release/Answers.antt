@@ -1,4 +1,4 @@
-use Rattle.std.proofs.Common.{◌≡◌, ◌<◌, ◌≤◌, true, false, length, Some, Ok, Err, vec_items, vec_len, sym, refl, ap, ◌∙◌, subst, arith, rules}
+use Rattle.std.proofs.Common.{◌≡◌, true, Some, Ok, vec_items, ap, ◌∙◌, arith, rules}
 use Rattle.tables.specs.Model.{is_in, without, rising, place_of, all_well}
 use Rattle.tables.specs.Shown.{number, numbers}
 use Rattle.objects.specs.Calls.{heap_of, with_roots, drop_answer, unrooted}
@@ -17,14 +17,26 @@ gone c =
     let at = c.in-Some.at in
     let ns = numbers (vec_items s.roots) in
     let e : Some at ≡ place_of o ns = c.in-Some.ensures.value ∙ ap (λ xs. place_of o (numbers xs)) c.deref.ensures.value in
-    let f = place_facts o ns at s.orderedRoots e in
-    (f.0, ap numbers c.remove.ensures.items ∙ map_removed number (vec_items s.roots) at ∙ removed_without o ns at s.orderedRoots f.1 f.2)
+    let f = place_facts o ns at s.ordered_roots e in
+    (f.0, ap numbers c.remove.ensures.items ∙ map_removed number (vec_items s.roots) at ∙ removed_without o ns at s.ordered_roots f.1 f.2)
 
-pub invariant-of-self : goal.invariant-of-self
-invariant-of-self c =
+pub invariant_of-self : goal.invariant_of-self
+invariant_of-self c =
     let s = c.args.self.now in
     let g = gone c in
-    (s.sixteen, (s.inside, (s.few, (s.room, (s.ordered, (s.own, (omega (arith, c.remove.ensures.len, s.fewRoots), (omega (arith, c.remove.ensures.capacity, s.roomRoots), (ap rising g.1 ∙ rising_without c.args.o.0 (numbers (vec_items s.roots)) s.orderedRoots, (ap (all_well s.houses) g.1 ∙ well_without s.houses c.args.o.0 (numbers (vec_items s.roots)) s.wellRoots, (s.wellFields, tt)))))))))))
+    record {
+      sixteen = s.sixteen;
+      inside = s.inside;
+      few = s.few;
+      room = s.room;
+      ordered = s.ordered;
+      own = s.own;
+      few_roots = omega (arith, c.remove.ensures.len, s.few_roots);
+      room_roots = omega (arith, c.remove.ensures.capacity, s.room_roots);
+      ordered_roots = ap rising g.1 ∙ rising_without c.args.o.0 (numbers (vec_items s.roots)) s.ordered_roots;
+      well_roots = ap (all_well s.houses) g.1 ∙ well_without s.houses c.args.o.0 (numbers (vec_items s.roots)) s.well_roots;
+      well_fields = s.well_fields;
+    }
 
 pub returns : goal.returns
 returns c =
@@ -33,11 +45,11 @@ returns c =
     let at = c.in-Some.at in
     let ns = numbers (vec_items s.roots) in
     let e : Some at ≡ place_of o ns = c.in-Some.ensures.value ∙ ap (λ xs. place_of o (numbers xs)) c.deref.ensures.value in
-    let f = place_facts o ns at s.orderedRoots e in
+    let f = place_facts o ns at s.ordered_roots e in
     let there : is_in o (heap_of s).roots ≡ true = f.0 in
     let v : Ok tt ≡ drop_answer o (heap_of s) = search rules in
     record {
       value = v;
-      after = ap (λ os. with_roots os (heap_of s)) (ap numbers c.remove.ensures.items ∙ map_removed number (vec_items s.roots) at ∙ removed_without o ns at s.orderedRoots f.1 f.2) ∙ accepted (drop_answer o (heap_of s)) tt (unrooted o (heap_of s)) (heap_of s) v;
-      frees = frees o (with_roots (numbers (vec_items c.remove.new.self)) (heap_of s)) (ap (is_in o) (ap numbers c.remove.ensures.items ∙ map_removed number (vec_items s.roots) at ∙ removed_without o ns at s.orderedRoots f.1 f.2) ∙ without_gone o ns);
+      after = ap (λ os. with_roots os (heap_of s)) (ap numbers c.remove.ensures.items ∙ map_removed number (vec_items s.roots) at ∙ removed_without o ns at s.ordered_roots f.1 f.2) ∙ accepted (drop_answer o (heap_of s)) tt (unrooted o (heap_of s)) (heap_of s) v;
+      frees = frees o (with_roots (numbers (vec_items c.remove.new.self)) (heap_of s)) (ap (is_in o) (ap numbers c.remove.ensures.items ∙ map_removed number (vec_items s.roots) at ∙ removed_without o ns at s.ordered_roots f.1 f.2) ∙ without_gone o ns);
     }

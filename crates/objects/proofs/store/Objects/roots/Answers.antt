@@ -1,4 +1,4 @@
-use Rattle.std.proofs.Common.{◌≡◌, ap, ◌∙◌}
+use Rattle.std.proofs.Common.{ap, ◌∙◌}
 use Rattle.tables.specs.Model.{rising}
 use Rattle.tables.specs.Shown.{numbers}
 use Rattle.objects.proofs.store.Objects.roots.Goals as goal
@@ -8,5 +8,5 @@ returns c =
     let s = c.args.self.now in
     record {
       value = ap numbers c.deref.ensures.value;
-      rises = ap (λ xs. rising (numbers xs)) c.deref.ensures.value ∙ s.orderedRoots;
+      rises = ap (λ xs. rising (numbers xs)) c.deref.ensures.value ∙ s.ordered_roots;
     }

@@ -1,13 +1,13 @@
-use Rattle.std.proofs.Common.{◌≡◌, ◌<◌, ◌≤◌, true, false, length, Ok, Err, vec_items, vec_len, sym, refl, ap, ◌∙◌, arith, rules}
+use Rattle.std.proofs.Common.{◌≡◌, ◌<◌, ◌≤◌, true, false, length, Ok, Err, sym, ap, ◌∙◌, arith, rules}
 use Rattle.std.specs.List.{remove}
 use Rattle.std.proofs.lemmas.List.{length-map}
 use Rattle.wire.specs.declared.refusal.Refusal.TheVariants.{NoField}
-use Rattle.tables.specs.Model.{fields_of, is_in, present, changed, without_first, all_well}
+use Rattle.tables.specs.Model.{fields_of, is_in, changed, without_first, all_well}
 use Rattle.tables.specs.Shown.{object_of, number, numbers}
 use Rattle.objects.specs.Calls.{heap_of, with_objects, unlink_answer, unlinked_from}
 use Rattle.tables.proofs.Places.{first_none, first_there}
 use Rattle.tables.proofs.Well.{well_removed, well_fields}
-use Rattle.objects.proofs.Helds.{Held, held_facts, held_name, held_fields, put_held, accepted, refused_so}
+use Rattle.objects.proofs.Helds.{held_facts, held_name, held_fields, put_held, accepted, refused_so}
 use Rattle.tables.proofs.Table.{length_fields}
 use Rattle.objects.proofs.store.Objects.unlink.Goals as goal
 
@@ -34,7 +34,7 @@ put-requires c =
     record {
       within = c.in-Some.ensures.within;
       same = h.called ∙ sym (held_name s o c.in-Some.at h c.index.result.now c.index.ensures) ∙ ap (λ y. y.name) (sym c.unlinked.ensures);
-      well = ap (λ y. all_well s.houses y.fields) c.unlinked.ensures ∙ well_removed s.houses (object_of x).fields c.first-place.result (ap (all_well s.houses) (sym (held_fields s o c.in-Some.at h x c.index.ensures)) ∙ well_fields s.houses o (heap_of s).objects s.wellFields);
+      well = ap (λ y. all_well s.houses y.fields) c.unlinked.ensures ∙ well_removed s.houses (object_of x).fields c.first-place.result (ap (all_well s.houses) (sym (held_fields s o c.in-Some.at h x c.index.ensures)) ∙ well_fields s.houses o (heap_of s).objects s.well_fields);
     }
 
 pub returns : goal.returns

@@ -1,4 +1,4 @@
-use Rattle.std.proofs.Common.{◌≡◌, ◌-◌, Bool, sym, ap, ◌∙◌, arith}
+use Rattle.std.proofs.Common.{◌≡◌, Bool, sym, ◌∙◌, arith}
 use Rattle.rounds.specs.Model.{Slot, agrees}
 use Rattle.rounds.specs.Shown.{slots_of}
 use Rattle.rounds.proofs.Laws.{agree_less}

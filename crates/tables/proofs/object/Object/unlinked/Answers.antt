@@ -1,10 +1,9 @@
-use Rattle.std.proofs.Common.{◌≡◌, ℕ, suc, ◌+◌, ◌-◌, ◌<◌, ◌≤◌, List, [], ◌∷◌, ◌++◌, length, get_or, take, drop, set, sym, refl, ap, ◌∙◌, subst, add-one, arith}
+use Rattle.std.proofs.Common.{◌≡◌, ◌+◌, ◌-◌, ◌<◌, take, sym, refl, ap, ◌∙◌, subst, add-one, arith}
 use Rattle.std.specs.List.{remove}
-use Rattle.std.proofs.lemmas.List.{take_more, take_more_set, drop-set-lt, get_or-drop, length-set, length-take-le}
 use Rattle.wire.specs.Names.{name}
 use Rattle.tables.specs.Shown.{number, numbers, object_of}
 use Rattle.tables.specs.Model.{with_fields}
-use Rattle.tables.proofs.Edits.{removed_last, removed_push, map_removed, moved}
+use Rattle.tables.proofs.Edits.{removed_last, map_removed, moved}
 use Rattle.tables.proofs.object.Object.unlinked.Goals as goal
 
 pub loop-i-init : goal.loop-i-init
