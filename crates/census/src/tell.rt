@@ -37,5 +37,5 @@ fn room(told: &mut Vec<Told>, more: usize) -> Result<Vec<Name>, AllocError>
 {
     told.reserve(more)?;
     let unanswered = count_unanswered(told);
-    Vec::with_capacity(told.allocator(), unanswered + more)
+    Vec::with_capacity(*told.allocator(), unanswered + more)
 }

@@ -1,5 +1,5 @@
 -- Calls by their words.
-use Rattle.std.specs.Prelude.{ℕ, Bool, cond, List, [], ◌∷◌, Some, None, codes, Option}
+use Rattle.std.specs.Prelude.{ℕ, cond, List, [], ◌∷◌, Some, None, codes, Option}
 use Rattle.std.specs.Str.{bytes_eq}
 use Rattle.wire.specs.declared.names.House.{House}
 use Rattle.wire.specs.declared.names.Name.{Name}

@@ -1,5 +1,5 @@
 -- Lines by their words.
-use Rattle.std.specs.Prelude.{ℕ, Bool, true, false, cond, List, [], ◌∷◌, Some, None, codes, Option, ◌==◌}
+use Rattle.std.specs.Prelude.{ℕ, Bool, true, cond, List, [], ◌∷◌, Some, None, codes, Option, ◌==◌}
 use Rattle.std.specs.Str.{bytes_eq}
 use Rattle.wire.specs.declared.names.House.{House}
 use Rattle.text.specs.declared.calls.Command.{Command}

@@ -10,7 +10,8 @@ pub fn write_refusal(refusal: Refusal, out: &mut String) -> fmt::Result
     ensures { OnOk result (string_bytes out.new ≡ string_bytes out.old ++ refusal_line refusal) }
 {
     let number = refusal.number();
-    write!(out, "no {number}\n")
+    write!(out, "no {number}\n")?;
+    Ok(())
 }
 
 // A line without the newline that ends it.

@@ -11,7 +11,7 @@ use Rattle.census.proofs.table.count_untold.Goals.{in-Ok, in-Err}
 
 pub loop-o-preserved : goal.loop-o-preserved
 loop-o-preserved c =
-    let us = c.args.in-use.now in
+    let us = c.args.in_use.now in
     let ts = told_of c.args.told.now in
     let i = c.loop-o.o-index in
     let u = (get_or us i (name 0)).0 in
@@ -26,6 +26,6 @@ loop-o-preserved c =
 
 pub returns : goal.returns
 returns c =
-    let us = c.args.in-use.now in
+    let us = c.args.in_use.now in
     let ts = told_of c.args.told.now in
     omega (arith, at_drop_all (λ xs. length (untold (numbers xs) ts)) us c.loop-o.o-index c.loop-o-test.false)

@@ -6,4 +6,4 @@ use Rattle.census.proofs.table.count_untold.Given as goal
 
 abbrev pub invariant-loop-o : goal.invariant-loop-o
 invariant-loop-o l =
-    (l.count + length (untold (numbers (drop l.o-index l.in-use)) (told_of l.told)) ≡ length (untold (numbers l.in-use) (told_of l.told))) × (l.count ≤ l.o-index)
+    (l.count + length (untold (numbers (drop l.o-index l.in_use)) (told_of l.told)) ≡ length (untold (numbers l.in_use) (told_of l.told))) × (l.count ≤ l.o-index)

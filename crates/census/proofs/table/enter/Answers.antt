@@ -9,12 +9,12 @@ use Rattle.census.proofs.Places.{place_in, place_out}
 use Rattle.census.proofs.Entering.{entered_in, table_entered, untold_one}
 use Rattle.census.proofs.table.enter.Goals as goal
 
-pub returns-in-default : goal.returns-in-default
-returns-in-default c =
+pub returns-in_default : goal.returns-in_default
+returns-in_default c =
     let ts = c.args.told.now.items in
     let o = c.args.o.0 in
-    let f : Ok c.in-default.field-0 ≡ place_of o (names (told_of ts)) = subst (λ xs. Ok c.in-default.field-0 ≡ place_of o (names (told_of xs))) c.deref.ensures.value c.in-default.ensures.value in
-    record { after = sym (entered_in o (told_of ts) c.requires.rises (place_in o (names (told_of ts)) c.in-default.field-0 f).0); room = omega arith }
+    let f : Ok c.in_default.field-0 ≡ place_of o (names (told_of ts)) = subst (λ xs. Ok c.in_default.field-0 ≡ place_of o (names (told_of xs))) c.deref.ensures.value c.in_default.ensures.value in
+    record { after = sym (entered_in o (told_of ts) c.requires.rises (place_in o (names (told_of ts)) c.in_default.field-0 f).0); room = omega arith }
 
 pub returns : goal.returns
 returns c =

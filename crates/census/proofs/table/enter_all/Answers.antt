@@ -9,7 +9,7 @@ use Rattle.census.proofs.table.enter_all.Goals as goal
 
 pub enter-requires : goal.enter-requires
 enter-requires c =
-    let us = c.args.in-use.now in
+    let us = c.args.in_use.now in
     let ts = told_of (vec_items c.loop-o.told) in
     let i = c.loop-o.o-index in
     let e = at_drop_more (λ xs. length (untold (numbers xs) ts)) us i (name 0) c.loop-o-test.true in
@@ -18,7 +18,7 @@ enter-requires c =
 
 pub loop-o-preserved : goal.loop-o-preserved
 loop-o-preserved c =
-    let us = c.args.in-use.now in
+    let us = c.args.in_use.now in
     let v = c.loop-o.told in
     let ts = told_of (vec_items v) in
     let n = c.enter.new.told in
@@ -40,7 +40,7 @@ loop-o-preserved c =
 
 pub returns : goal.returns
 returns c =
-    let us = c.args.in-use.now in
+    let us = c.args.in_use.now in
     let ts = told_of (vec_items c.loop-o.told) in
     let old = told_of (vec_items c.args.told.now) in
     let after : ts ≡ entered_all (numbers us) old = sym (at_drop_all (λ xs. entered_all (numbers xs) ts) us c.loop-o.o-index c.loop-o-test.false) ∙ c.loop-o.invariant.0 in

@@ -6,6 +6,6 @@ use Rattle.census.proofs.table.enter_all.Given as goal
 
 abbrev pub invariant-loop-o : goal.invariant-loop-o
 invariant-loop-o l =
-    (entered_all (numbers (drop l.o-index l.in-use)) (told_of (vec_items l.told)) ≡ entered_all (numbers l.in-use) (told_of (vec_items l.initial.told)))
+    (entered_all (numbers (drop l.o-index l.in_use)) (told_of (vec_items l.told)) ≡ entered_all (numbers l.in_use) (told_of (vec_items l.initial.told)))
     × (rising (names (told_of (vec_items l.told))) ≡ true)
-    × (vec_len l.told + length (untold (numbers (drop l.o-index l.in-use)) (told_of (vec_items l.told))) ≤ vec_capacity l.told)
+    × (vec_len l.told + length (untold (numbers (drop l.o-index l.in_use)) (told_of (vec_items l.told))) ≤ vec_capacity l.told)

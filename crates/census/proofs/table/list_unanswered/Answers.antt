@@ -8,8 +8,8 @@ use Rattle.census.proofs.Places.{nobody}
 use Rattle.census.proofs.table.list_unanswered.Goals as goal
 use Rattle.census.proofs.table.list_unanswered.Goals.{in-Awaited, in-Answered}
 
-pub push-reserved-requires : goal.push-reserved-requires
-push-reserved-requires c =
+pub push_reserved-requires : goal.push_reserved-requires
+push_reserved-requires c =
     let e = ap length (unanswered_out c.args.told.now c.loop-t.t-index c.loop-t-test.true (ap is_answered c.in-Awaited.is)) in
     omega (arith, c.loop-t.invariant.1)
 
@@ -28,9 +28,9 @@ loop-t-preserved c =
           let e : unanswered (told_of (drop i ts)) ≡ o.0 ∷ rest = unanswered_out ts i c.loop-t-test.true (ap is_answered w.in-Awaited.is) in
           let l : length (unanswered (told_of (drop i ts))) ≡ length (o.0 ∷ rest) = ap length e in
           let items : numbers (vec_items c.match-t.due) ≡ numbers (vec_items c.loop-t.due) ++ o.0 ∷ [] =
-          ap (λ v. numbers (vec_items v)) w.due-is ∙ ap numbers w.push-reserved.ensures.items ∙ map_push number (vec_items c.loop-t.due) o in (
+          ap (λ v. numbers (vec_items v)) w.due-is ∙ ap numbers w.push_reserved.ensures.items ∙ map_push number (vec_items c.loop-t.due) o in (
             ap (λ xs. xs ++ rest) items ∙ pushed (numbers (vec_items c.loop-t.due)) rest o.0 ∙ ap (λ xs. numbers (vec_items c.loop-t.due) ++ xs) (sym e) ∙ c.loop-t.invariant.0,
-            omega (arith, ap vec_len w.due-is, ap vec_capacity w.due-is, w.push-reserved.ensures.len, w.push-reserved.ensures.capacity, c.loop-t.invariant.1),
+            omega (arith, ap vec_len w.due-is, ap vec_capacity w.due-is, w.push_reserved.ensures.len, w.push_reserved.ensures.capacity, c.loop-t.invariant.1),
           )
       | in-Answered w ↦
           let e : unanswered (told_of (drop i ts)) ≡ rest = unanswered_in ts i c.loop-t-test.true (ap is_answered w.in-Answered.is) in

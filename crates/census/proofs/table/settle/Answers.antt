@@ -6,12 +6,12 @@ use Rattle.census.proofs.Places.{place_in, place_out}
 use Rattle.census.proofs.Settling.{names_settled, settled_out, table_settled}
 use Rattle.census.proofs.table.settle.Goals as goal
 
-pub returns-in-default : goal.returns-in-default
-returns-in-default c =
+pub returns-in_default : goal.returns-in_default
+returns-in_default c =
     let ts = c.args.told.now.items in
     let o = c.args.o.0 in
-    let f : Err c.in-default.field-0 ≡ place_of o (names (told_of ts)) = subst (λ xs. Err c.in-default.field-0 ≡ place_of o (names (told_of xs))) c.deref.ensures.value c.in-default.ensures.value in
-    record { after = sym (settled_out o (told_of ts) (place_out o (names (told_of ts)) c.in-default.field-0 f).0); same = refl }
+    let f : Err c.in_default.field-0 ≡ place_of o (names (told_of ts)) = subst (λ xs. Err c.in_default.field-0 ≡ place_of o (names (told_of xs))) c.deref.ensures.value c.in_default.ensures.value in
+    record { after = sym (settled_out o (told_of ts) (place_out o (names (told_of ts)) c.in_default.field-0 f).0); same = refl }
 
 pub returns : goal.returns
 returns c =
