@@ -1,5 +1,5 @@
 -- How many references a house can have: a word counts them in two bytes.
-use Rattle.std.proofs.Common.{◌≡◌, ℕ, suc, ◌+◌, ◌*◌, ◌≤◌, Bool, cond, eqb, List, [], ◌∷◌, ◌++◌, length, IfOk, Ok, Err, vec_items, Result, Vec, sym, ap, ◌∙◌, arith}
+use Rattle.std.proofs.Common.{◌≡◌, ℕ, suc, ◌*◌, ◌≤◌, Bool, eqb, List, [], ◌∷◌, ◌++◌, length, IfOk, Ok, Err, vec_items, Result, Vec, sym, ap, ◌∙◌, arith}
 use Rattle.std.proofs.lemmas.List.{length-append, length-map, length-take}
 use Rattle.std.proofs.lemmas.Bool.{cond_both}
 use Rattle.std.specs.declared.alloc.AllocError.{AllocError}
@@ -35,7 +35,7 @@ references_few : (j : ℕ) (t : Objects) → length (references_of j (heap_of t)
 references_few j t =
     let xs : List ℕ = numbers (vec_items t.roots) in
     let ys : List ℕ = everywhere (objects_of (vec_items t.objects)) in
-    omega (arith, sorted_few (λ o. eqb (home o) j) (xs ++ ys), length-append xs ys, numbers_long (vec_items t.roots), everywhere_few (vec_items t.objects), t.objects.ok.0, t.roots.ok.0, t.few, t.fewRoots)
+    omega (arith, sorted_few (λ o. eqb (home o) j) (xs ++ ys), length-append xs ys, numbers_long (vec_items t.roots), everywhere_few (vec_items t.objects), t.objects.ok.0, t.roots.ok.0, t.few, t.few_roots)
 
 pub found_few : (r : Result (Vec Name Global) AllocError) (j : ℕ) (t : Objects) → IfOk r (λ v. numbers (vec_items v) ≡ references_of j (heap_of t)) → IfOk r (λ v. length (vec_items v) ≤ 8448)
 found_few (Ok v) j t e =

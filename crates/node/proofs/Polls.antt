@@ -1,5 +1,5 @@
 -- Steps by the parts that the code has.
-use Rattle.std.proofs.Common.{◌≡◌, ℕ, Bool, true, false, cond, eqb, ltb, leb, List, [], ◌∷◌, length, Ok, sym, refl, ap, ◌∙◌}
+use Rattle.std.proofs.Common.{◌≡◌, ℕ, Bool, true, false, cond, eqb, ltb, leb, List, [], ◌∷◌, length, Ok, sym, ap, ◌∙◌}
 use Rattle.wire.specs.declared.message.Message.{Message}
 use Rattle.wire.specs.declared.names.House as wire
 use Rattle.wire.specs.Names.{house}
@@ -13,7 +13,7 @@ use Rattle.wire.specs.declared.message.Message.TheVariants.{Word}
 use Rattle.rounds.specs.Model.{Desk, idle}
 use Rattle.rules.specs.Executed.{references_of}
 use Rattle.rules.specs.House.{House, self, houses, census, with_part}
-use Rattle.rules.specs.Step.{Outcome, letter, used, caught_up, in_census, replies_to, polled, worded, bytes_of}
+use Rattle.rules.specs.Step.{letter, used, caught_up, in_census, replies_to, polled, worded, bytes_of}
 
 -- what catching up makes of a house, by its parts
 pub caught : (b : Bool) (c : ℕ) (h : House) (l : List Listed) (st : Stamps) (p : Part) (d : Desk) → l ≡ cond b (joined c (heard_from h.stamps) h.list) h.list → st ≡ h.stamps → p ≡ cond b (fresh c) h.part → d ≡ cond b idle h.desk →

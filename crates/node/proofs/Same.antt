@@ -1,5 +1,5 @@
 -- The house afterwards is the same house.
-use Rattle.std.proofs.Common.{◌≡◌, Bool, sym, refl, ap, ◌∙◌}
+use Rattle.std.proofs.Common.{◌≡◌, Bool, sym, ap, ◌∙◌}
 use Rattle.node.specs.declared.sent.Answer.{Answer}
 use Rattle.node.specs.declared.sent.Answer.TheVariants.{Sends, Refused, NoMemory}
 use Rattle.rules.specs.House.{House}

@@ -1,8 +1,6 @@
 -- What a house in memory stands for, and what its answers say.
 use Rattle.std.specs.Prelude.{◌≡◌, ℕ, Bool, true, false, List, [], ◌∷◌, map, Ok, Err, vec_items, Result}
 use Rattle.wire.specs.declared.refusal.Refusal.{Refusal}
-use Rattle.wire.specs.declared.names.Census.{Census}
-use Rattle.wire.specs.declared.names.Name.{Name}
 use Rattle.wire.specs.declared.message.Message.{Message}
 use Rattle.wire.specs.declared.message.Message.TheVariants as message
 use Rattle.wire.specs.Format.{decode}

@@ -1,4 +1,4 @@
-use Rattle.std.proofs.Common.{◌≡◌, vec_items, sym, ap, ◌∙◌}
+use Rattle.std.proofs.Common.{vec_items, sym, ap, ◌∙◌}
 use Rattle.tables.proofs.Places.{names_in_place}
 use Rattle.tables.specs.Model.{rising}
 use Rattle.tables.specs.Shown.{numbers}

@@ -1,4 +1,4 @@
-use Rattle.std.proofs.Common.{◌≡◌, vec_items, sym, ap, ◌∙◌}
+use Rattle.std.proofs.Common.{vec_items, ap, ◌∙◌}
 use Rattle.tables.proofs.Places.{names_in_place}
 use Rattle.tables.specs.Met.{FarInUse}
 use Rattle.tables.specs.Model.{rising}
@@ -13,4 +13,4 @@ pub returns : goal.returns
 returns c =
     let t = c.args.objects.now in
     let from = numbers c.args.names.now in
-    found c.in-use.result (FarInUse (heap_of t) from) (names_in_use from (heap_of t)) c.in-use.ensures.sole (in_use (heap_of t) from (ap rising (names_in_place (vec_items t.objects)) ∙ t.ordered))
+    found c.in_use.result (FarInUse (heap_of t) from) (names_in_use from (heap_of t)) c.in_use.ensures.sole (in_use (heap_of t) from (ap rising (names_in_place (vec_items t.objects)) ∙ t.ordered))

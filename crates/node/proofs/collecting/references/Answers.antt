@@ -10,5 +10,5 @@ pub returns : goal.returns
 returns c =
     let t = c.args.objects.now in
     let j = c.args.house.0 in
-    let names = found c.references-of.result (Refers (heap_of t) j) (references_of j (heap_of t)) c.references-of.ensures.sole (refers (heap_of t) j) in
-    record { few = found_few c.references-of.result j t names; names = names }
+    let names = found c.references_of.result (Refers (heap_of t) j) (references_of j (heap_of t)) c.references_of.ensures.sole (refers (heap_of t) j) in
+    record { few = found_few c.references_of.result j t names; names = names }

@@ -1,4 +1,4 @@
-use Rattle.std.proofs.Common.{◌≡◌, [], sym, ap, ◌∙◌}
+use Rattle.std.proofs.Common.{[], sym, ap, ◌∙◌}
 use Rattle.lines.specs.Listed.{objects_listed}
 use Rattle.lines.specs.Lists.{lines}
 use Rattle.objects.specs.Calls.{heap_of}
@@ -14,4 +14,4 @@ returns c =
     let h = house_of c.args.self c.args.objects.now c.args.list.now in
     let listed = objects_listed (lines c.args.list.now) in
     ap (λ x. sends [] (with_heap x h))
-    (sym (c.collect-from.ensures ∙ ap (λ l. collected l (heap_of c.args.objects.now)) (front c.objects-count.new.into c.objects-count.result listed c.objects-count.ensures.after)))
+    (sym (c.collect_from.ensures ∙ ap (λ l. collected l (heap_of c.args.objects.now)) (front c.objects-count.new.into c.objects-count.result listed c.objects-count.ensures.after)))

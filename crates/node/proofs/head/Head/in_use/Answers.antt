@@ -1,4 +1,4 @@
-use Rattle.std.proofs.Common.{◌≡◌, sym, ap, ◌∙◌}
+use Rattle.std.proofs.Common.{ap, ◌∙◌}
 use Rattle.lines.specs.Listed.{objects_in}
 use Rattle.lines.specs.Lists.{lines}
 use Rattle.objects.specs.Calls.{heap_of}
@@ -10,7 +10,7 @@ pub returns : goal.returns
 returns c =
     let t = heap_of c.args.objects.now in
     let es = lines c.args.list.now in
-    let into = c.objects-in-count.new.into in
-    found_also c.met-from.result _ _
-    (ap (λ l. names_in_use l t) (front into c.objects-in-count.result (objects_in c.census.result.0 es) c.objects-in-count.ensures.after) ∙ ap (λ n. names_in_use (objects_in n es) t) c.census.ensures)
-    c.met-from.ensures
+    let into = c.objects_in-count.new.into in
+    found_also c.met_from.result _ _
+    (ap (λ l. names_in_use l t) (front into c.objects_in-count.result (objects_in c.census.result.0 es) c.objects_in-count.ensures.after) ∙ ap (λ n. names_in_use (objects_in n es) t) c.census.ensures)
+    c.met_from.ensures

@@ -18,6 +18,6 @@ returns c =
     let above : ltb (census h) n ≡ true = lt-ltb (census h) n (omega (arith, c.census.ensures, c.if-census.false)) in
     let up : caught_up n h ≡ in_census n h = rw above in
     let listed = objects_in n (joined n (heard_from c.args.self.now.stamps) (lines c.args.list.now)) in
-    found_also c.met-from.result _ _
-    (ap (λ l. names_in_use l (heap_of c.args.objects.now)) (front c.objects-joining-count.new.into c.objects-joining-count.result listed c.objects-joining-count.ensures.after) ∙ sym (ap used up))
-    c.met-from.ensures
+    found_also c.met_from.result _ _
+    (ap (λ l. names_in_use l (heap_of c.args.objects.now)) (front c.objects_joining-count.new.into c.objects_joining-count.result listed c.objects_joining-count.ensures.after) ∙ sym (ap used up))
+    c.met_from.ensures

@@ -17,12 +17,12 @@ returns c =
     let there : leb t.houses j ≡ false = lt-leb t.houses j (omega (arith, c.houses.ensures, c.if-to-houses.false)) in
     let other : eqb j t.home ≡ false = ne_eqb j t.home (λ e. c.if-to-home.false (e ∙ sym c.home.ensures)) in
     let refs : numbers (vec_items c.in-Ok.names) ≡ references_of j t = c.in-Ok.ensures.names in
-    let bytes : vec_items c.in-Ok-name-bytes.bytes ≡ bytes_of (references_of j t) = c.in-Ok-name-bytes.ensures ∙ ap (λ ns. bytes_of (numbers ns)) c.deref.ensures.value ∙ ap bytes_of refs in
+    let bytes : vec_items c.in-Ok-name_bytes.bytes ≡ bytes_of (references_of j t) = c.in-Ok-name_bytes.ensures ∙ ap (λ ns. bytes_of (numbers ns)) c.deref.ensures.value ∙ ap bytes_of refs in
     let long = c.in-Ok.names.ok.0 in
     let count : c.len.result ≡ length (references_of j t) = c.len.ensures ∙ long ∙ sym (numbers_long (vec_items c.in-Ok.names)) ∙ ap length refs in
-    word_step (house_of c.args.self c.args.objects.now c.args.list.now) j c.home-2.result c.args.to c.seen-from-stamp.result c.len.result (vec_items c.in-Ok-name-bytes.bytes) there other
+    word_step (house_of c.args.self c.args.objects.now c.args.list.now) j c.home-2.result c.args.to c.seen_from-stamp.result c.len.result (vec_items c.in-Ok-name_bytes.bytes) there other
     (ap house c.home-2.ensures)
     refl
-    c.seen-from-stamp.ensures
+    c.seen_from-stamp.ensures
     count
     bytes
