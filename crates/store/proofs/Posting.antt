@@ -1,6 +1,6 @@
 -- Messages posted one by one.
 use Rattle.std.proofs.Common.{◌≡◌, ℕ, ◌+◌, ◌<◌, ◌≤◌, List, [], ◌∷◌, ◌++◌, map, length, get_or, take, vec_items, Vec, sym, refl, ap, ◌∙◌}
-use Rattle.std.proofs.lemmas.List.{take_more, take_all, append-nil, append_assoc}
+use Rattle.std.proofs.lemmas.List.{take_more, take_all, append_assoc}
 use Rattle.std.specs.declared.alloc.Global.{Global}
 use Rattle.wire.specs.declared.message.Message.TheVariants.{Telling}
 use Rattle.wire.specs.declared.names.Census.{Census}

@@ -6,4 +6,4 @@ use Rattle.store.proofs.table.Store.new.Goals as goal
 
 pub returns : goal.returns
 returns c =
-    nothing_in c.args.home.0 c.args.houses (heap_of c.in-ok-objects.objects) _ c.new-2.result.stamps (part_of c.new-2.result.standing) (desk_of c.new-2.result.desk) c.in-ok-objects.ensures (no_rows _) c.new-2.ensures.stamps c.new-2.ensures.part c.new-2.ensures.desk
+    nothing_in c.args.home.0 c.args.houses (heap_of c.in_ok-objects.objects) _ c.new-2.result.stamps (part_of c.new-2.result.standing) (desk_of c.new-2.result.desk) c.in_ok-objects.ensures (no_rows _) c.new-2.ensures.stamps c.new-2.ensures.part c.new-2.ensures.desk

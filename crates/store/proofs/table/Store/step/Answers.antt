@@ -4,11 +4,19 @@ use Rattle.store.specs.Stores.{house_with}
 use Rattle.store.proofs.Lends.{within, own, far, here, all}
 use Rattle.store.proofs.table.Store.step.Goals as goal
 
-pub invariant-of-self : goal.invariant-of-self
-invariant-of-self c =
+pub invariant_of-self : goal.invariant_of-self
+invariant_of-self c =
     let s = c.args.self.now in
     let t = c.step-head.new.list in
     let lent = c.step-head.ensures.lent in
     let h = house_with c.replace-head.result s in
     let g = house_of c.step-head.result.0 c.step-head.new.objects t in
-    (within t lent.room, (s.sixteen, (t.alone, (own t s.home lent.home, (far t s.home s.houses lent.home lent.houses, (here c.step-head.result.1 h g (event_in c.args.event) s.home.0 c.step-head.ensures.step s.here, (all c.step-head.result.1 h g (event_in c.args.event) s.houses c.step-head.ensures.step s.all, tt)))))))
+    record {
+      within = within t lent.room;
+      sixteen = s.sixteen;
+      alone = t.alone;
+      own = own t s.home lent.home;
+      far = far t s.home s.houses lent.home lent.houses;
+      here = here c.step-head.result.1 h g (event_in c.args.event) s.home.0 c.step-head.ensures.step s.here;
+      all = all c.step-head.result.1 h g (event_in c.args.event) s.houses c.step-head.ensures.step s.all;
+    }
