@@ -1,14 +1,12 @@
 -- Parts of settling, one after the other.
 use Rattle.std.proofs.Common.{◌≡◌, ℕ, zero, suc, ◌+◌, ◌-◌, ◌<◌, ◌≤◌, Bool, true, false, cond, ◌&&◌, eqb, ltb, List, [], ◌∷◌, ◌++◌, map, length, get_or, Err, sym, refl, ap, ◌∙◌, subst, add-one, arith}
-use mathlib.Core.Path.{fun_ext}
 use Rattle.std.proofs.lemmas.List.{append-nil, map-append}
-use Rattle.std.proofs.lemmas.Bool.{eqb-true, false≢true, lt-ltb, le-ltb, eq-eqb, ne_eqb, cond-true, cond-false}
+use Rattle.std.proofs.lemmas.Bool.{false≢true, lt-ltb, le-ltb, eq-eqb, ne_eqb, cond-true, cond-false}
 use Rattle.wire.specs.declared.refusal.Refusal.{Refusal}
 use Rattle.wire.specs.declared.refusal.Refusal.TheVariants.{Malformed}
-use Rattle.rules.specs.House.{House}
 use Rattle.rules.specs.Step.{Event, Said, came, step, event_of}
 use Rattle.rules.proofs.Fairness.{always_fair}
-use Rattle.play.specs.Play.{World, Entry, calls, delivers, put, happens, written, play, answered, plays}
+use Rattle.play.specs.Play.{World, Entry, calls, delivers, happens, written, play, answered, plays}
 use Rattle.play.specs.Settle.{below, delivery, deliveries, and_then, pump, each, pass, tallies, passes}
 use Rattle.play.proofs.FairEntries.{plays_append}
 use Rattle.net.proofs.Entered.{put_same, world_same}

@@ -8,7 +8,7 @@ use Rattle.wire.specs.declared.message.Message.{Message}
 use Rattle.wire.specs.declared.message.Message.TheVariants as message
 use Rattle.wire.specs.declared.refusal.Refusal.{Refusal}
 use Rattle.wire.specs.Format.{decode}
-use Rattle.rules.specs.House.{House, empty, census}
+use Rattle.rules.specs.House.{House, census}
 use Rattle.node.specs.declared.sent.Recipient.{Recipient}
 use Rattle.node.specs.Recipients.{recipient_of}
 use Rattle.store.specs.declared.table.Store.{Store}

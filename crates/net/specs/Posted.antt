@@ -1,5 +1,5 @@
 -- What becomes of an answer.
-use Rattle.std.specs.Prelude.{◌≡◌, ℕ, List, ◌++◌, map, Vec}
+use Rattle.std.specs.Prelude.{◌≡◌, ℕ, ◌++◌, map, Vec}
 use Rattle.std.specs.declared.alloc.Global.{Global}
 use Rattle.node.specs.declared.sent.Sent.{Sent}
 use Rattle.node.specs.declared.sent.Answer.{Answer}

@@ -15,16 +15,16 @@ returns-then-i-len c =
       promise = promised (count s) (world s) s.faithful s.some s.few s.reached;
     }
 
-pub invariant-of-self : goal.invariant-of-self
-invariant-of-self c =
+pub invariant_of-self : goal.invariant_of-self
+invariant_of-self c =
     let s = c.args.self.now in
-    let z = turned s.houses c.deref-mut.result.now c.call-at-answer.new.houses c.deref-mut.ensures.value c.call-at-answer.ensures.long c.args.house.0 (event_of c.args.call) (calls c.args.house.0 c.args.call) s.sent c.keep-played.new.sent c.keep-played.result c.call-at-answer.result s.faithful c.still-self.result
-    (is_call (count s) c.args.house.0 c.args.call (world s) (within s.houses c.len.ensures c.if-i-len.false)) c.call-at-answer.ensures.others c.call-at-answer.ensures.does c.keep-played.ensures c.still-self.ensures s.some s.few s.reached in
-    (z.some, (z.few, (z.reached, tt)))
+    let z = turned s.houses c.deref_mut.result.now c.call_at-answer.new.houses c.deref_mut.ensures.value c.call_at-answer.ensures.long c.args.house.0 (event_of c.args.call) (calls c.args.house.0 c.args.call) s.sent c.keep-played.new.sent c.keep-played.result c.call_at-answer.result s.faithful c.still-self.result
+    (is_call (count s) c.args.house.0 c.args.call (world s) (within s.houses c.len.ensures c.if-i-len.false)) c.call_at-answer.ensures.others c.call_at-answer.ensures.does c.keep-played.ensures c.still-self.ensures s.some s.few s.reached in
+    record { some = z.some; few = z.few; reached = z.reached }
 
 pub returns : goal.returns
 returns c =
     let s = c.args.self.now in
-    let z = turned s.houses c.deref-mut.result.now c.call-at-answer.new.houses c.deref-mut.ensures.value c.call-at-answer.ensures.long c.args.house.0 (event_of c.args.call) (calls c.args.house.0 c.args.call) s.sent c.keep-played.new.sent c.keep-played.result c.call-at-answer.result s.faithful c.still-self.result
-    (is_call (count s) c.args.house.0 c.args.call (world s) (within s.houses c.len.ensures c.if-i-len.false)) c.call-at-answer.ensures.others c.call-at-answer.ensures.does c.keep-played.ensures c.still-self.ensures s.some s.few s.reached in
+    let z = turned s.houses c.deref_mut.result.now c.call_at-answer.new.houses c.deref_mut.ensures.value c.call_at-answer.ensures.long c.args.house.0 (event_of c.args.call) (calls c.args.house.0 c.args.call) s.sent c.keep-played.new.sent c.keep-played.result c.call_at-answer.result s.faithful c.still-self.result
+    (is_call (count s) c.args.house.0 c.args.call (world s) (within s.houses c.len.ensures c.if-i-len.false)) c.call_at-answer.ensures.others c.call_at-answer.ensures.does c.keep-played.ensures c.still-self.ensures s.some s.few s.reached in
     record { plays = z.plays; faithful = c.still-self.ensures; count = z.same; promise = z.safe }

@@ -4,4 +4,4 @@ use Rattle.net.proofs.net.Net.calls.Goals as goal
 
 pub returns : goal.returns
 returns c =
-    along_one c.went-on.result c.call-played.result (calls c.args.house.0 c.args.call) c.args.self.now c.call-played.new.self c.went-on.ensures c.call-played.ensures.plays c.call-played.ensures.faithful c.call-played.ensures.count
+    along_one c.went_on.result c.call-played.result (calls c.args.house.0 c.args.call) c.args.self.now c.call-played.new.self c.went_on.ensures c.call-played.ensures.plays c.call-played.ensures.faithful c.call-played.ensures.count

@@ -1,15 +1,14 @@
-use Rattle.std.proofs.Common.{◌≡◌, ℕ, ◌<◌, ◌≤◌, sym, refl, subst, arith}
+use Rattle.std.proofs.Common.{ℕ, ◌<◌, ◌≤◌, sym, refl, subst}
 use Rattle.std.proofs.lemmas.Bool.{false≢true}
 use Rattle.rules.specs.Step.{came}
-use Rattle.net.specs.Nets.{world, count}
-use Rattle.net.proofs.Entered.{forged, count_same, within, beyond, apart}
+use Rattle.net.proofs.Entered.{forged, count_same, within, apart}
 use Rattle.net.proofs.net.Net.forge.Goals as goal
 
-pub invariant-of-self-2 : goal.invariant-of-self-2
-invariant-of-self-2 c =
+pub invariant_of-self-2 : goal.invariant_of-self-2
+invariant_of-self-2 c =
     let s = c.args.self.now in
-    let e = count_same s.houses c.deref-mut.result.now c.got-at-answer.new.houses c.deref-mut.ensures.value c.got-at-answer.ensures.long in
-    (subst (λ (k : ℕ). 0 < k) (sym e) s.some, (subst (λ (k : ℕ). k ≤ 16) (sym e) s.few, (λ f. absurd (false≢true f), tt)))
+    let e = count_same s.houses c.deref_mut.result.now c.got_at-answer.new.houses c.deref_mut.ensures.value c.got_at-answer.ensures.long in
+    record { some = subst (λ (k : ℕ). 0 < k) (sym e) s.some; few = subst (λ (k : ℕ). k ≤ 16) (sym e) s.few; reached = λ f. absurd (false≢true f) }
 
 pub returns : goal.returns
 returns c =
@@ -17,9 +16,9 @@ returns c =
     let lt = within s.houses c.len.ensures c.if-i-len.false in
     record {
       faithful = refl;
-      count = count_same s.houses c.deref-mut.result.now c.got-at-answer.new.houses c.deref-mut.ensures.value c.got-at-answer.ensures.long;
+      count = count_same s.houses c.deref_mut.result.now c.got_at-answer.new.houses c.deref_mut.ensures.value c.got_at-answer.ensures.long;
       acts = (
-        λ _. forged s.houses c.deref-mut.result.now c.got-at-answer.new.houses c.deref-mut.ensures.value c.got-at-answer.ensures.long c.args.house.0 (came c.args.bytes.now) s.sent c.keep.new.sent c.keep.result c.got-at-answer.result c.got-at-answer.ensures.others c.got-at-answer.ensures.does c.keep.ensures,
+        λ _. forged s.houses c.deref_mut.result.now c.got_at-answer.new.houses c.deref_mut.ensures.value c.got_at-answer.ensures.long c.args.house.0 (came c.args.bytes.now) s.sent c.keep.new.sent c.keep.result c.got_at-answer.result c.got_at-answer.ensures.others c.got_at-answer.ensures.does c.keep.ensures,
         λ le. absurd (apart lt le),
       );
     }

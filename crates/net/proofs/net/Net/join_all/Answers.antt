@@ -3,4 +3,4 @@ use Rattle.net.proofs.net.Net.join_all.Goals as goal
 
 pub returns : goal.returns
 returns c =
-    along_joins c.calling-each.result c.above-census.result c.args.self.now c.calling-each.new.self (above_in c.above-census.result c.args.self.now c.deref.result.now c.deref.ensures.value c.above-census.ensures) c.calling-each.ensures
+    along_joins c.calling_each.result c.above-census.result c.args.self.now c.calling_each.new.self (above_in c.above-census.result c.args.self.now c.deref.result.now c.deref.ensures.value c.above-census.ensures) c.calling_each.ensures

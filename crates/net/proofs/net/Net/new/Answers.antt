@@ -1,8 +1,8 @@
-use Rattle.std.proofs.Common.{◌≡◌, ℕ, ◌<◌, ◌≤◌, eqb, ltb, List, [], map, vec_items, Vec, sym, refl, ap, ◌∙◌, subst, arith}
+use Rattle.std.proofs.Common.{◌≡◌, ℕ, ◌<◌, ◌≤◌, eqb, ltb, List, map, vec_items, Vec, sym, refl, ap, ◌∙◌, subst, arith}
 use Rattle.std.proofs.lemmas.Bool.{or_left, or_right, or_from, eq-eqb, ne_eqb, lt-ltb, le-ltb}
 use Rattle.std.specs.declared.alloc.Global.{Global}
 use Rattle.store.specs.Sending.{items_in}
-use Rattle.play.specs.Play.{World, Reach, begin, start}
+use Rattle.play.specs.Play.{Reach, begin, start}
 use Rattle.net.specs.Worlds.{world_of}
 use Rattle.net.specs.Laws.{Lawful}
 use Rattle.play.proofs.Promise.{always_safe}
@@ -37,10 +37,14 @@ begins c = ap (λ (xs : List (Vec ℕ Global)). world_of (vec_items c.in-Ok.hous
 above : {a : ℕ} → (a ≡ 0 → ⊥) → 0 < a
 above p = omega arith
 
-pub invariant-of-result : goal.invariant-of-result
-invariant-of-result c =
+pub invariant_of-result : goal.invariant_of-result
+invariant_of-result c =
     let e = row_count c.args.count (vec_items c.in-Ok.houses) c.in-Ok.ensures in
-    (subst (λ (k : ℕ). 0 < k) (sym e) (above c.if-count-eq0.false), (subst (λ (k : ℕ). k ≤ 16) (sym e) c.if-count-gt16.false, (λ _. ∣ subst (λ (k : ℕ). Reach k (world_of (vec_items c.in-Ok.houses) (map items_in (vec_items c.new.result)))) (sym e) (subst (Reach c.args.count) (sym (begins c)) start) ∣₁, tt)))
+    record {
+      some = subst (λ (k : ℕ). 0 < k) (sym e) (above c.if-count-eq0.false);
+      few = subst (λ (k : ℕ). k ≤ 16) (sym e) c.if-count-gt16.false;
+      reached = λ _. ∣ subst (λ (k : ℕ). Reach k (world_of (vec_items c.in-Ok.houses) (map items_in (vec_items c.new.result)))) (sym e) (subst (Reach c.args.count) (sym (begins c)) start) ∣₁;
+    }
 
 pub returns-in-Ok : goal.returns-in-Ok
 returns-in-Ok c =

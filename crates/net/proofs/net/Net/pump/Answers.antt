@@ -12,5 +12,5 @@ returns-then-next-sent c =
 pub loop-left-preserved : goal.loop-left-preserved
 loop-left-preserved c =
     rest_step (λ n w. pump c.args.most n c.args.from w) (λ n w. pump c.loop-left.left n c.loop-left.next w) (λ n w. deliveries n c.loop-left.next w) (λ n w. pump (c.loop-left.left - 1) n (c.loop-left.next + 1) w)
-    c.deliver-message.result c.args.self.now c.loop-left.self c.deliver-message.new.self c.loop-left.invariant c.if-not-deliver-message.false c.deliver-message.ensures
+    c.deliver_message.result c.args.self.now c.loop-left.self c.deliver_message.new.self c.loop-left.invariant c.if-not-deliver_message.false c.deliver_message.ensures
     (pump_more c.loop-left.left (count c.args.self.now) c.loop-left.next (world c.loop-left.self) c.loop-left-test.true (subst (λ (k : ℕ). c.loop-left.next < k) c.sent.ensures c.if-next-sent.false))

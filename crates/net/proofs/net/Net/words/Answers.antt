@@ -4,4 +4,4 @@ use Rattle.net.proofs.net.Net.words.Goals as goal
 
 pub loop-from-preserved : goal.loop-from-preserved
 loop-from-preserved c =
-    along_each (λ n i v. each n (λ j u. word_to n i j u) n v) c.loop-from.from c.words-of.result c.args.self.now c.loop-from.self c.words-of.new.self c.loop-from.invariant c.if-not-words-of.false c.words-of.ensures
+    along_each (λ n i v. each n (λ j u. word_to n i j u) n v) c.loop-from.from c.words_of.result c.args.self.now c.loop-from.self c.words_of.new.self c.loop-from.invariant c.if-not-words_of.false c.words_of.ensures
