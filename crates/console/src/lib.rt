@@ -2,10 +2,10 @@
 
 #![tactic(auto)]
 
-use anyhow::anyhow;
 use std::alloc::Global;
 use std::env;
 use std::io::{BufRead, BufReader, Write};
+use std::process::ExitCode;
 
 // Answers lines one by one.
 pub trait Player {
@@ -25,10 +25,10 @@ pub fn arguments(rt: &HostRuntime) -> anyhow::Result<Option<Vec<u64>>> {
     Ok(Some(numbers))
 }
 
-// Says how the program is used; the error ends it with status 1.
-pub fn wrong_arguments(rt: &HostRuntime, usage: &str) -> anyhow::Result<()> {
+// Says how the program is used, and nothing else; the status with which it ends is 1.
+pub fn wrong_arguments(rt: &HostRuntime, usage: &str) -> anyhow::Result<ExitCode> {
     eprintln!(rt; "{usage}")?;
-    Err(anyhow!("wrong arguments"))
+    Ok(ExitCode::FAILURE)
 }
 
 // Plays standard input to its end. What a line leads to is written before the next is read, so that a person or a pipe may wait for it.

@@ -6,6 +6,7 @@ use anyhow::anyhow;
 use console::Player;
 use node::Answer;
 use std::alloc::Global;
+use std::process::ExitCode;
 use store::Store;
 use text::Line;
 use wire::{House, Refusal};
@@ -71,7 +72,7 @@ fn named(heap: Global, arguments: &[u64]) -> Option<Store> {
     Store::new(heap, House(*own as u8), *houses as u8).ok()
 }
 
-fn main(rt: HostRuntime) -> anyhow::Result<()> {
+fn main(rt: HostRuntime) -> anyhow::Result<ExitCode> {
     let heap = rt.alloc();
     let Some(arguments) = console::arguments(&rt)? else {
         return console::wrong_arguments(&rt, USAGE);
@@ -80,5 +81,6 @@ fn main(rt: HostRuntime) -> anyhow::Result<()> {
         return console::wrong_arguments(&rt, USAGE);
     };
     let mut player = Own { heap, store };
-    console::play(&rt, &mut player)
+    console::play(&rt, &mut player)?;
+    Ok(ExitCode::SUCCESS)
 }

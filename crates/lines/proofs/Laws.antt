@@ -3,7 +3,7 @@ use Rattle.std.proofs.Common.{◌≡◌, ℕ, ◌<◌, true, false, cond, ◌&&�
 use mathlib.Core.List.Memᴰ
 use mathlib.Core.List.{Memᴰ}
 use Rattle.std.proofs.lemmas.Bool.{cases_Bool, cond-true, cond-false, and_parts, leb-true, eq-eqb, ne_eqb}
-use Rattle.std.specs.List.{AllByRecursion as All}
+use Rattle.std.specs.List.{AllByRecursion}
 use Rattle.lines.specs.Listed.{Listed, line, is_of, goes, heard_of, swept, entered, joined}
 use Rattle.lines.specs.Laws.{Again, Survives, Outlives, Raised, Raises, unheard, LeavesUnheard}
 
@@ -62,7 +62,7 @@ module _ (c : ℕ) (heard : ℕ → ℕ) where
     raises es h.1,
   )
 
-  leaves : (es : List Listed) → All (λ e. e.census < c) es → swept c (joined c heard es) ≡ joined c heard (unheard heard es)
+  leaves : (es : List Listed) → AllByRecursion (λ e. e.census < c) es → swept c (joined c heard es) ≡ joined c heard (unheard heard es)
   unfolding joined swept unheard
   leaves [] h = refl
   leaves (e ∷ es) h =

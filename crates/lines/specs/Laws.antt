@@ -1,7 +1,7 @@
 -- What holds of the list whatever is in it, in the words of its use.
 use Rattle.std.specs.Prelude.{◌≡◌, ℕ, ◌<◌, ◌≤◌, cond, List, [], ◌∷◌, length, ◌≢◌, nat_lt}
 use mathlib.Core.List.{Memᴰ}
-use Rattle.std.specs.List.{AllZip, AllByRecursion as All}
+use Rattle.std.specs.List.{AllZip, AllByRecursion}
 use Rattle.wire.specs.Names.{home}
 use Rattle.lines.specs.Listed.{Listed, line, heard_of, joined}
 
@@ -24,7 +24,7 @@ pub record Raised (e f : Listed) : Type 0 where
 
 -- A join never lowers a line's number, where none is above that of the census, and changes nothing else of a line.
 abbrev pub Raises : ℕ → List Listed → List Listed → Type 0
-Raises c es fs = All (λ e. e.census ≤ c) es → AllZip Raised es fs
+Raises c es fs = AllByRecursion (λ e. e.census ≤ c) es → AllZip Raised es fs
 
 -- the lines not yet heard: with a stamp above what is heard of the holder
 unfoldable pub unheard : (ℕ → ℕ) → List Listed → List Listed
@@ -33,7 +33,7 @@ unheard heard (e ∷ es) = cond (nat_lt (heard e.holder) e.stamp) (e ∷ unheard
 
 -- A sweep after a join and no marks leaves exactly the lines not yet heard, with the number of the census.
 abbrev pub LeavesUnheard : ℕ → List Listed → List Listed → Type 0
-LeavesUnheard c es fs = (heard : ℕ → ℕ) (before : List Listed) → All (λ e. e.census < c) before → es ≡ joined c heard before → fs ≡ joined c heard (unheard heard before)
+LeavesUnheard c es fs = (heard : ℕ → ℕ) (before : List Listed) → AllByRecursion (λ e. e.census < c) before → es ≡ joined c heard before → fs ≡ joined c heard (unheard heard before)
 
 -- What holds of every list of a house: at most one line for an object and a holder, at most 2,048 in all, every object lives here, and every holder is another of the houses.
 pub record Kept (here houses : ℕ) (es : List Listed) : Type 0 where

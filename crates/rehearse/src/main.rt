@@ -9,6 +9,7 @@ use net::{Net, Played, Settled};
 use node::Recipient;
 use std::alloc::Global;
 use std::fmt::Write;
+use std::process::ExitCode;
 use store::Store;
 use tables::Object;
 use text::Play;
@@ -197,12 +198,13 @@ fn empty(heap: Global, arguments: &[u64]) -> anyhow::Result<Option<Rehearsal>> {
     }))
 }
 
-fn main(rt: HostRuntime) -> anyhow::Result<()> {
+fn main(rt: HostRuntime) -> anyhow::Result<ExitCode> {
     let Some(arguments) = console::arguments(&rt)? else {
         return console::wrong_arguments(&rt, USAGE);
     };
     let Some(mut player) = empty(rt.alloc(), &arguments)? else {
         return console::wrong_arguments(&rt, USAGE);
     };
-    console::play(&rt, &mut player)
+    console::play(&rt, &mut player)?;
+    Ok(ExitCode::SUCCESS)
 }

@@ -1,7 +1,7 @@
 -- Every step leaves a sound house sound, and what it sends can be read.
 use Rattle.std.proofs.Common.{◌≡◌, ℕ, ◌+◌, ◌*◌, ◌^◌, ◌<◌, ◌≤◌, min, Bool, true, false, cond, not, ◌&&◌, ◌||◌, eqb, ltb, leb, List, [], ◌∷◌, map, length, is_ok, Ok, Err, Result, sym, refl, subst, inl, inr, ⊎_elim, arith}
 use mathlib.Core.List.{Memᴰ}
-use Rattle.std.specs.List.{AllByRecursion as All}
+use Rattle.std.specs.List.{AllByRecursion}
 use Rattle.std.proofs.lemmas.Bool.{and_parts, or_cases, or_left, or_right, or_parts, cond_both, eqb-true, eqb-false, eq-eqb, ltb-true, ltb-false, leb-false, not-true, not-false}
 use Rattle.wire.specs.declared.message.Message.{Message}
 use Rattle.wire.specs.declared.message.Message.TheVariants as message
@@ -105,14 +105,14 @@ Fine n l = Valid n l.0 l.1 × Bytes l.1
 -- an outcome with a sound house, and with letters that may be sent
 record Good (n : ℕ) (x : Outcome) : Type 0 where
   keeps : Sound x.house
-  fine : (ls : List Letter) → x.answer ≡ Ok ls → All (Fine n) ls
+  fine : (ls : List Letter) → x.answer ≡ Ok ls → AllByRecursion (Fine n) ls
 
 module _ (n : ℕ) where
   good_refused : (e : Refusal) (h : House) → Sound h → Good n (refused e h)
   good_refused e h s = record { keeps = s; fine = λ ls q. let z : ◌≡◌ {A = ℕ} 0 1 = cc in absurd (omega arith) }
 
-  good_sends : (ls : List Letter) (h : House) → All (Fine n) ls → Sound h → Good n (sends ls h)
-  good_sends ls h a s = record { keeps = s; fine = λ ks q. let e : ls ≡ ks = cc in subst (All (Fine n)) e a }
+  good_sends : (ls : List Letter) (h : House) → AllByRecursion (Fine n) ls → Sound h → Good n (sends ls h)
+  good_sends ls h a s = record { keeps = s; fine = λ ks q. let e : ls ≡ ks = cc in subst (AllByRecursion (Fine n)) e a }
 
   good_unless : (b : Bool) (e : Refusal) (h : House) (x : Outcome) → Sound h → (b ≡ false → Good n x) → Good n (refuse_if b e h x)
   good_unless true e h x s f = good_refused e h s
@@ -127,7 +127,7 @@ module _ (n : ℕ) where
   good_heap (Ok x) new h s f = good_sends [] (with_heap new h) tt (f refl)
 
 -- a letter without objects
-plain : (n : ℕ) (m : Message) → Valid n m [] → All (Fine n) (letter m ∷ [])
+plain : (n : ℕ) (m : Message) → Valid n m [] → AllByRecursion (Fine n) (letter m ∷ [])
 plain n m v = ((v, no_bytes), tt)
 
 -- what was not refused
@@ -189,7 +189,7 @@ next_fits : (a : ℕ) → a < 4294967295 → a + 1 < 2 ^ 32
 next_fits a l = omega arith
 
 module _ (h : House) (s : Sound h) where
-  good_asked : (o j : ℕ) → is_in o h.heap.roots ≡ true → j < houses h → All (Fine (houses h)) (letter (message.Ask (name o) (house (self h)) (house j)) ∷ [])
+  good_asked : (o j : ℕ) → is_in o h.heap.roots ≡ true → j < houses h → AllByRecursion (Fine (houses h)) (letter (message.Ask (name o) (house (self h)) (house j)) ∷ [])
   good_asked o j r l = plain (houses h) (message.Ask (name o) (house (self h)) (house j)) (s.heap.roots o r, s.heap.inside, l, refl)
 
   word_fine : (j : ℕ) → j < houses h → let os = references_of j h.heap in Fine (houses h) (message.Word (house (self h)) (house j) (stamp (seen_from h.stamps j)) (record { at = 9; count = length os }), bytes_of os)
@@ -198,7 +198,7 @@ module _ (h : House) (s : Sound h) where
       let few = references_fit j h.heap s.heap in
       ((s.heap.inside, l, s.stamps.seen j, refl, omega arith, length_names os, word_rises (houses h) j os (refers h.heap j).rises (references_named j h.heap s.heap)), names_bytes os)
 
-  tellings_fine : (ds : List ℕ) → ((o : ℕ) → told.is_in o ds ≡ true → Named (houses h) (name o)) → All (Fine (houses h)) (map (telling_of h) ds)
+  tellings_fine : (ds : List ℕ) → ((o : ℕ) → told.is_in o ds ≡ true → Named (houses h) (name o)) → AllByRecursion (Fine (houses h)) (map (telling_of h) ds)
   tellings_fine [] f = tt
   tellings_fine (o ∷ ds) f =
       (((s.part.census, f o (or_left (eqb o o) (told.is_in o ds) (eq-eqb o o refl)), s.heap.inside, refl), no_bytes), tellings_fine ds (λ q e. f q (or_right (eqb o q) (told.is_in q ds) e)))
@@ -312,7 +312,7 @@ good_receives (message.Reply c r from calm t) part h s (l, k, a, b, e) =
     good_unless (houses h) (not (asks (self h))) Misdelivered h _ s (λ _.
     good_unless (houses h) (not (eqb c.0 (census h))) OtherCensus h _ s (λ _.
     good_sends (houses h) _ _
-    (cond_both (completes (houses h) r.0 from.0 calm t.0 h.desk) (letter (message.Complete c) ∷ []) [] (All (Fine (houses h))) (λ _. plain (houses h) (message.Complete c) (l, refl)) (λ _. tt))
+    (cond_both (completes (houses h) r.0 from.0 calm t.0 h.desk) (letter (message.Complete c) ∷ []) [] (AllByRecursion (Fine (houses h))) (λ _. plain (houses h) (message.Complete c) (l, refl)) (λ _. tt))
     (sound_with_desk h s (noted r.0 from.0 calm t.0 h.desk) (desk_noted h.desk s.desk r.0 from.0 calm t.0))))
 good_receives (message.Complete c) part h s (l, e) =
     good_unless (houses h) (not (eqb c.0 (census h))) OtherCensus h _ s (λ _.

@@ -1,6 +1,6 @@
 -- The objects and roots of a house stay within their limits.
 use Rattle.std.proofs.Common.{◌≡◌, ℕ, suc, ◌+◌, ◌*◌, ◌%◌, ◌^◌, ◌<◌, ◌≤◌, Bool, true, false, eqb, ltb, ◌⊎◌, List, [], ◌∷◌, ◌++◌, length, sym, refl, ap, ◌∙◌, subst, inl, inr, ⊎_elim, arith}
-use Rattle.std.specs.List.{AllByRecursion as All}
+use Rattle.std.specs.List.{AllByRecursion}
 use Rattle.std.proofs.lemmas.List.{length-append, length_push, map_push}
 use Rattle.std.proofs.ByRecursion.{All-push}
 use Rattle.std.proofs.lemmas.Bool.{both_ways, and_parts, and_from, or_cases, or_left, or_right, cond_both, eqb-true, eq-eqb, lt-ltb}
@@ -52,7 +52,7 @@ in_everywhere o q (x ∷ xs) e =
     (λ _ g. is_in_append q x.fields (everywhere xs) ∙ or_right (is_in q x.fields) (is_in q (everywhere xs)) (in_everywhere o q xs g))
     e
 
-small_fields : (o : ℕ) (xs : List Object) → All Small xs → length (fields_of o xs) ≤ 8
+small_fields : (o : ℕ) (xs : List Object) → AllByRecursion Small xs → length (fields_of o xs) ≤ 8
 small_fields o [] a = omega arith
 small_fields o (x ∷ xs) a = cond_both (eqb x.name o) x.fields (fields_of o xs) (λ l. length l ≤ 8) (λ _. a.0) (λ _. small_fields o xs a.1)
 
@@ -75,10 +75,10 @@ module _ (o : ℕ) (fs : List ℕ) where
       (λ _. refl)
       (λ _. ap suc (length_changed xs))
 
-  small_changed : (xs : List Object) → length fs ≤ 8 → All Small xs → All Small (changed o fs xs)
+  small_changed : (xs : List Object) → length fs ≤ 8 → AllByRecursion Small xs → AllByRecursion Small (changed o fs xs)
   small_changed [] l a = tt
   small_changed (x ∷ xs) l a =
-      cond_both (eqb x.name o) (other ∷ xs) (x ∷ changed o fs xs) (All Small)
+      cond_both (eqb x.name o) (other ∷ xs) (x ∷ changed o fs xs) (AllByRecursion Small)
       (λ _. (l, a.1))
       (λ _. (a.0, small_changed xs l a.1))
 
@@ -143,7 +143,7 @@ some_few end = omega arith
 some_few (kept s) = let i = some_few s in omega arith
 some_few (left s) = let i = some_few s in omega arith
 
-some_small : {ys xs : List Object} → Some ys xs → All Small xs → All Small ys
+some_small : {ys xs : List Object} → Some ys xs → AllByRecursion Small xs → AllByRecursion Small ys
 some_small end a = a
 some_small (kept s) a = (a.0, some_small s a.1)
 some_small (left s) a = some_small s a.1
@@ -209,7 +209,7 @@ module _ (x : Heap) (s : SoundHeap x) where
         made = number_fits k x.home fits;
       }
 
-  heap_objects : (ys : List Object) → rising (names ys) ≡ true → length ys ≤ 1024 → ((o : ℕ) → present o ys ≡ true → present o x.objects ≡ true) → ((o : ℕ) → is_in o (everywhere ys) ≡ true → Named x.houses (name o)) → All Small ys → SoundHeap (with_objects ys x)
+  heap_objects : (ys : List Object) → rising (names ys) ≡ true → length ys ≤ 1024 → ((o : ℕ) → present o ys ≡ true → present o x.objects ≡ true) → ((o : ℕ) → is_in o (everywhere ys) ≡ true → Named x.houses (name o)) → AllByRecursion Small ys → SoundHeap (with_objects ys x)
   heap_objects ys order few old fields small = record {
     sixteen = s.sixteen;
     inside = s.inside;
@@ -290,7 +290,7 @@ length_sorted p (o ∷ os) =
     let i = length_sorted p os in
     cond_both (p o) (added o (sorted_by p os)) (sorted_by p os) (λ l. length l ≤ length (o ∷ os)) (λ _. omega (arith, length_added o (sorted_by p os))) (λ _. omega arith)
 
-length_everywhere : (xs : List Object) → All Small xs → length (everywhere xs) ≤ 8 * length xs
+length_everywhere : (xs : List Object) → AllByRecursion Small xs → length (everywhere xs) ≤ 8 * length xs
 length_everywhere [] a = omega arith
 length_everywhere (x ∷ xs) a = let i = length_everywhere xs a.1 in let l : length x.fields ≤ 8 = a.0 in omega (arith, length-append x.fields (everywhere xs))
 

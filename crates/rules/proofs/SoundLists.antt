@@ -2,7 +2,7 @@
 use Rattle.std.proofs.Common.{◌≡◌, ℕ, ◌+◌, ◌≤◌, true, false, cond, not, ◌||◌, eqb, ltb, ◌⊎◌, List, [], ◌∷◌, length, sym, refl, ap, ◌∙◌, subst, inl, inr, ⊎_elim, arith}
 use mathlib.Core.List.Memᴰ
 use mathlib.Core.List.{Memᴰ}
-use Rattle.std.specs.List.{AllZip, AllByRecursion as All}
+use Rattle.std.specs.List.{AllZip, AllByRecursion}
 use Rattle.std.proofs.lemmas.List.Elements.{length_all_zip}
 use Rattle.std.proofs.lemmas.Bool.{both_ways, cases_Bool, and_parts, and_from, or_cases, or_left, or_right, or_parts, or_from, cond_both, cond-true, cond-false, eqb-true, eq-eqb, ltb-true}
 use Rattle.wire.specs.Names.{name}
@@ -15,11 +15,11 @@ use Rattle.rules.proofs.Fairness.{by_cases}
 use Rattle.rules.proofs.SoundHeaps.{in_none}
 
 module _ {X : Type 0} (P : X → Type 0) where
-  pub all_mem : (xs : List X) → All P xs → (x : X) → Memᴰ x xs → P x
+  pub all_mem : (xs : List X) → AllByRecursion P xs → (x : X) → Memᴰ x xs → P x
   all_mem [] a x m = absurd (Memᴰ.not-nil m)
   all_mem (y ∷ xs) a x m = ⊎_elim (λ q. subst P (sym q) a.0) (λ n. all_mem xs a.1 x n) (Memᴰ.cases_cons m)
 
-  pub mem_all : (xs : List X) → ((x : X) → Memᴰ x xs → P x) → All P xs
+  pub mem_all : (xs : List X) → ((x : X) → Memᴰ x xs → P x) → AllByRecursion P xs
   mem_all [] f = tt
   mem_all (y ∷ xs) f = (f y (Memᴰ.head refl), mem_all xs (λ x m. f x (Memᴰ.tail m)))
 
@@ -64,7 +64,7 @@ unfolding swept
 fewer_swept c [] = none
 fewer_swept c (e ∷ es) = cond_both (eqb e.census c) (e ∷ swept c es) (swept c es) (λ fs. Fewer fs (e ∷ es)) (λ _. stays (fewer_swept c es)) (λ _. leaves (fewer_swept c es))
 
-fewer_all : (P : Listed → Type 0) {fs es : List Listed} → Fewer fs es → All P es → All P fs
+fewer_all : (P : Listed → Type 0) {fs es : List Listed} → Fewer fs es → AllByRecursion P es → AllByRecursion P fs
 fewer_all P none a = tt
 fewer_all P (stays w) a = (a.0, fewer_all P w a.1)
 fewer_all P (leaves w) a = fewer_all P w a.1
@@ -166,7 +166,7 @@ line_renumbered here n b c e f l w r = ⊎_elim
     (λ q. subst (SoundLine here n c) (sym q) (record { own = w.own; named = w.named; near = w.near; apart = w.apart; stamp = w.stamp; census = omega arith }))
     r
 
-lines_renumbered : (here n b c : ℕ) (es fs : List Listed) → b ≤ c → All (SoundLine here n b) es → AllZip (Renumbered c) es fs → All (SoundLine here n c) fs
+lines_renumbered : (here n b c : ℕ) (es fs : List Listed) → b ≤ c → AllByRecursion (SoundLine here n b) es → AllZip (Renumbered c) es fs → AllByRecursion (SoundLine here n c) fs
 lines_renumbered here n b c [] [] l a r = tt
 lines_renumbered here n b c [] (f ∷ fs) l a r = absurd r
 lines_renumbered here n b c (e ∷ es) [] l a r = absurd r
@@ -210,10 +210,10 @@ stale_marked c o j (e ∷ es) =
     (λ t. omega (arith, newly_later c o j e es t, ap (stale c) (cond-false (is_of o j e) (x ∷ es) (e ∷ marked c o j es) t)))
 
 module _ (o j s c : ℕ) where
-  sound_entered_all : (P : Listed → Type 0) (es : List Listed) → P (line o j s c) → All P es → All P (entered o j s c es)
+  sound_entered_all : (P : Listed → Type 0) (es : List Listed) → P (line o j s c) → AllByRecursion P es → AllByRecursion P (entered o j s c es)
   unfolding entered
   sound_entered_all P [] p a = (p, tt)
-  sound_entered_all P (e ∷ es) p a = cond_both (is_of o j e) (line o j s c ∷ es) (e ∷ entered o j s c es) (All P) (λ _. (p, a.1)) (λ _. (a.0, sound_entered_all P es p a.1))
+  sound_entered_all P (e ∷ es) p a = cond_both (is_of o j e) (line o j s c ∷ es) (e ∷ entered o j s c es) (AllByRecursion P) (λ _. (p, a.1)) (λ _. (a.0, sound_entered_all P es p a.1))
 
   length_entered : (es : List Listed) → length (entered o j s c es) ≤ length es + 1
   unfolding entered
@@ -266,7 +266,7 @@ module _ (o j s c : ℕ) where
   }
 
 -- the objects of lines are named
-objects_named : (here n b c q : ℕ) (es : List Listed) → All (SoundLine here n b) es → is_in q (objects_in c es) ≡ true → Named n (name q)
+objects_named : (here n b c q : ℕ) (es : List Listed) → AllByRecursion (SoundLine here n b) es → is_in q (objects_in c es) ≡ true → Named n (name q)
 unfolding objects_in
 objects_named here n b c q [] a e = in_none q e
 objects_named here n b c q (x ∷ es) a e =

@@ -1,7 +1,7 @@
 -- The limits, the order and the ranges of all tables of a house, which every step keeps.
 use Rattle.std.specs.Prelude.{◌≡◌, ℕ, ◌+◌, ◌*◌, ◌/◌, ◌^◌, ◌<◌, ◌≤◌, true, false, cond, List, [], ◌∷◌, length, ◌==◌, ◌≢◌}
 use mathlib.Core.List.{Memᴰ}
-use Rattle.std.specs.List.{AllByRecursion as All}
+use Rattle.std.specs.List.{AllByRecursion}
 use Rattle.wire.specs.Names.{home, name}
 use Rattle.wire.specs.Laws.{Bytes, Named}
 use Rattle.tables.specs.Model.{Object, Heap, is_in, present, names, rising}
@@ -32,7 +32,7 @@ pub record SoundHeap (x : Heap) : Type 0 where
   pub few : length x.objects ≤ 1024
   pub own : (o : ℕ) → present o x.objects ≡ true → Own x.home x.houses x.made o
   pub fields : (o : ℕ) → is_in o (everywhere x.objects) ≡ true → Named x.houses (name o)
-  pub small : All Small x.objects
+  pub small : AllByRecursion Small x.objects
   pub roots_order : rising x.roots ≡ true
   pub roots_few : length x.roots ≤ 256
   pub roots : (o : ℕ) → is_in o x.roots ≡ true → Named x.houses (name o)
