@@ -3,9 +3,9 @@
 set -eu
 cd "$(dirname "$0")/.."
 
-rt check rehearse >/dev/null 2>&1
-rt staticlib exports >/dev/null 2>&1
-rt staticlib measures >/dev/null 2>&1
+(cd crates/rehearse && rt run -- 1 </dev/null >/dev/null 2>&1)
+(cd crates/exports && rt lib >/dev/null 2>&1)
+(cd crates/measures && rt lib >/dev/null 2>&1)
 (cd peer && cargo build --release --offline --quiet && cargo build --release --offline --quiet --features measures --bin bench)
 bench=peer/target/release/bench
 "$bench"
@@ -37,4 +37,4 @@ done
 script=$(mktemp)
 trap 'rm -f "$script"' EXIT
 "$bench" script >"$script"
-print_row "rehearse" "$(count target/bin/rehearse 4 <"$script")" "$(count peer/target/release/peer-rehearse 4 <"$script")"
+print_row "rehearse" "$(count crates/rehearse/out/rehearse 4 <"$script")" "$(count peer/target/release/peer-rehearse 4 <"$script")"

@@ -1,8 +1,8 @@
 #!/usr/bin/env python3
 """Writes the names of goals and steps in a crate's proof files as today's check spells them.
 
-In a crate's folder, once its sources are read: `rt check --generated /tmp/names --old-names`, then
-`goalnames.py /tmp/names/names.json`. A name of a proof file that differs from one of the check's in dashes and
+In a crate's folder, once its sources are read: `rt check --generated FOLDER --old-names`, then
+`goalnames.py FOLDER/names.json`. A name of a proof file that differs from one of the check's in dashes and
 underscores alone becomes that one.
 """
 import json

@@ -1,12 +1,27 @@
 # What the run of a program within 'rt ci' can't show: a status other than 0, and very large or garbled input.
 
+HOUSE=crates/house/out/house
+REHEARSE=crates/rehearse/out/rehearse
+
+# A program, as its own folder's run builds it.
+builds_program() {
+    local name=$1 log status
+    shift
+    log=$(mktemp)
+    (cd "crates/$name" && rt run -- "$@") >"$log" 2>&1 </dev/null
+    status=$?
+    [ "$status" -eq 0 ] || cat "$log"
+    rm -f "$log"
+    return "$status"
+}
+
 # Wrong arguments: a line on standard error, nothing on standard output, status 1.
 refuses_arguments() {
     local out err status
     err=$(mktemp)
     out=$("$@" 2>"$err" </dev/null)
     status=$?
-    [ "$status" -eq 1 ] && [ -z "$out" ] && grep -q '^usage: ' "$err"
+    [ "$status" -eq 1 ] && [ -z "$out" ] && grep -q '^usage: ' "$err" && [ "$(wc -l <"$err")" -eq 1 ]
     local result=$?
     rm -f "$err"
     return "$result"
@@ -21,15 +36,15 @@ prints() {
 }
 
 megabyte_of_digits() {
-    { printf 'make '; head -c 1000000 /dev/zero | tr '\0' '9'; printf ' 1\ngot '; head -c 1000001 /dev/zero | tr '\0' 'a'; printf '\n'; } | prints $'no 1\nno 1' target/bin/house 0 1
+    { printf 'make '; head -c 1000000 /dev/zero | tr '\0' '9'; printf ' 1\ngot '; head -c 1000001 /dev/zero | tr '\0' 'a'; printf '\n'; } | prints $'no 1\nno 1' "$HOUSE" 0 1
 }
 
 garbled_bytes() {
-    printf '\377\376\0make 1\nm\200ke 1\ngot 0g\n' | prints $'no 1\nno 1\nno 1' target/bin/house 0 1
+    printf '\377\376\0make 1\nm\200ke 1\ngot 0g\n' | prints $'no 1\nno 1\nno 1' "$HOUSE" 0 1
 }
 
 no_last_newline() {
-    printf 'house' | prints 'no 1' target/bin/rehearse 2
+    printf 'house' | prints 'no 1' "$REHEARSE" 2
 }
 
 # 320 references of house 1 in the fields of 40 objects of house 0: each is told, and a word names them all.
@@ -54,21 +69,23 @@ many_references() {
         echo "deliver $((sent + 321))"
         echo "0 got $(printf 'ff%.0s' $(seq 2000))"
     )
-    out=$(printf '%s\n' "$script" | target/bin/rehearse 2) || return 1
+    out=$(printf '%s\n' "$script" | "$REHEARSE" 2) || return 1
     [ "$(printf '%s\n' "$out" | grep -c '^[0-9]* 04')" -eq 320 ] &&
         [ "$(printf '%s\n' "$out" | sed -n 's/^961 //p' | cut -c1-18)" = "030001000001400140" ] &&
         [ "$(printf '%s\n' "$out" | sed -n 's/^961 //p' | tr -d '\n' | wc -c)" -eq $((2 * (9 + 4 * 320))) ] &&
         [ "$(printf '%s\n' "$out" | tail -n 1)" = "no 1" ]
 }
 
+try "house is built" builds_program house 0 1
+try "rehearse is built" builds_program rehearse 1
 for arguments in '' '0' '0 0' '1 1' '0 17' 'a 2' '0 1 2' '-1 2'; do
     # the words of the arguments are meant to be split
     # shellcheck disable=SC2086
-    try "house refuses '$arguments'" refuses_arguments target/bin/house $arguments
+    try "house refuses '$arguments'" refuses_arguments "$HOUSE" $arguments
 done
 for arguments in '' '0' '5' 'x' '2 2'; do
     # shellcheck disable=SC2086
-    try "rehearse refuses '$arguments'" refuses_arguments target/bin/rehearse $arguments
+    try "rehearse refuses '$arguments'" refuses_arguments "$REHEARSE" $arguments
 done
 try "lines of a megabyte" megabyte_of_digits
 try "bytes that are no text" garbled_bytes
