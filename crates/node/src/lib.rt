@@ -2,6 +2,7 @@
 
 #![tactic(auto)]
 
+mod asking;
 mod calls;
 mod collecting;
 mod dispatch;
@@ -10,7 +11,6 @@ mod head;
 mod messages;
 mod receiving;
 mod recipients;
-mod rounds;
 mod sent;
 
 pub use event::Event;
