@@ -4,27 +4,27 @@ ghost use Rattle.wire.specs.Names.{home_of, number_of, named, Parts, well_formed
 use crate::refusal::Refusal;
 
 // House: a machine that takes part. The houses are counted from 0, and there are at most sixteen.
-#[derive(Clone, Copy, PartialEq, Eq)]
+#[derive(Clone, Copy, Debug, PartialEq, Eq, PartialOrd, Ord)]
 pub struct House(pub u8);
 
 // An object's name: sixteen times its number, which is at least 1, plus its home, the house that it lives in.
-#[derive(Clone, Copy, PartialEq, Eq)]
+#[derive(Clone, Copy, Debug, PartialEq, Eq, PartialOrd, Ord)]
 pub struct Name(pub u32);
 
 // Stamp: the count of references that one house has handed to another, so that late and doubled ones can be told.
-#[derive(Clone, Copy)]
+#[derive(Clone, Copy, Debug, PartialEq, Eq, PartialOrd, Ord)]
 pub struct Stamp(pub u32);
 
 // Census: a marking of all that is in use in all houses, by its number; 0 is before the first.
-#[derive(Clone, Copy, PartialEq, Eq)]
+#[derive(Clone, Copy, Debug, PartialEq, Eq, PartialOrd, Ord)]
 pub struct Census(pub u32);
 
 // The number of a round of questions within a census; 0 is before the first.
-#[derive(Clone, Copy)]
+#[derive(Clone, Copy, Debug, PartialEq, Eq, PartialOrd, Ord)]
 pub struct RoundNumber(pub u32);
 
 // Tally: how many lines a house has marked in its census because it was told to.
-#[derive(Clone, Copy)]
+#[derive(Clone, Copy, Debug, PartialEq, Eq, PartialOrd, Ord)]
 pub struct Tally(pub u32);
 
 impl Name {
