@@ -220,7 +220,7 @@ fn part(bytes: &[u8], at: usize) -> &[u8]
 fn is_next(low: u32, object: u32, to: u8) -> bool
     ensures { result ≡ follows to low object }
 {
-    low < object && object % 16 == to as u32
+    low < object && object % 16 == u32::from(to)
 }
 
 // Whether the objects of a part rise and live in house `to`.
