@@ -1,5 +1,5 @@
 -- The list that lent columns hold.
-use Rattle.std.specs.Prelude.{◌≡◌, ℕ, zero, suc, ◌+◌, ◌<◌, cond, List, [], ◌∷◌, length, Some, None, Ok, Err, Option, Result, slice_set}
+use Rattle.std.specs.Prelude.{◌≡◌, ℕ, zero, suc, ◌+◌, ◌<◌, Bool, cond, List, [], ◌∷◌, length, Some, None, Ok, Err, Option, Result, slice_set}
 use Rattle.wire.specs.declared.refusal.Refusal.{Refusal}
 use Rattle.wire.specs.declared.refusal.Refusal.TheVariants.{Malformed, NoRoom}
 use Rattle.wire.specs.Names.{house, name}
@@ -21,6 +21,10 @@ shown e = record { object = name e.object; holder = house e.holder; stamp = reco
 abbrev pub listing : Line → Listed
 listing l = line l.object.0 l.holder.0 l.stamp.0 l.census.0
 
+-- the calls of a test of lines answer what p says of each
+abbrev pub Decides : (Line → Bool → Type 0) → (Listed → Bool) → Type 0
+Decides post p = (e : Listed) (b : Bool) → post (shown e) b → b ≡ p e
+
 unfoldable pub line_at : ℕ → List Listed → Option Line
 line_at i [] = None
 line_at zero (e ∷ es) = Some (shown e)
@@ -30,7 +34,7 @@ line_at (suc i) (e ∷ es) = line_at i es
 abbrev pub entering : ℕ → ℕ → ℕ → ℕ → ℕ → List Listed → Result (Unit {0}) Refusal
 entering here houses room o j es = cond (belongs here houses o j) (cond (fits o j es room) (Ok tt) (Err NoRoom)) (Err Malformed)
 
--- u lies in the memory that t lies in, and is the list of the same house
+-- u lies in the memory that t lies in, and is the list of the same house: each call that changes a list says so of what it was and what it is, which no invariant of one list can
 pub record Lent (t u : Lines) : Type 0 where
   pub objects : u.objects.ghost_name ≡ t.objects.ghost_name
   pub holders : u.holders.ghost_name ≡ t.holders.ghost_name

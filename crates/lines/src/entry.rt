@@ -44,6 +44,7 @@ impl<'a> Lines<'a> {
     }
 }
 
+// An object and a holder are passed side by side, and not as a pair or a line: a caller has them apart, and would only put them together for the call.
 impl Lines<'_> {
     // How many lines there are.
     pub fn len(&self) -> usize
@@ -58,12 +59,7 @@ impl Lines<'_> {
         ensures place { result ≡ place object.0 holder.0 0 (lines self.now) }
         ensures within { IfSome result (λ k. k < self.now.len) }
     {
-        for i in 0..self.len {
-            if self.is_at(i, object, holder) {
-                return Some(i);
-            }
-        }
-        None
+        (0..self.len).position(|i| self.is_at(i, object, holder))
     }
 
     // The line at place `i`.
@@ -120,7 +116,7 @@ impl Lines<'_> {
     fn takes(&self, object: Name, holder: House) -> bool
         ensures { result ≡ belongs self.now.home.0 self.now.houses object.0 holder.0 }
     {
-        object.home().0 == self.home.0 && holder.0 != self.home.0 && holder.0 < self.houses
+        object.home() == self.home && holder != self.home && holder.0 < self.houses
     }
 
     // Whether the line at place `i` is of `object` and `holder`.
@@ -128,7 +124,7 @@ impl Lines<'_> {
         requires { i < self.now.len }
         ensures { result ≡ is_of object.0 holder.0 (row_of self.now i) }
     {
-        self.objects[i] == object.0 && self.holders[i] == holder.0 as u32
+        self.objects[i] == object.0 && self.holders[i] == u32::from(holder.0)
     }
 
     // The line at place `i` gets another stamp and another census.
@@ -163,7 +159,7 @@ impl Lines<'_> {
     {
         let at = self.len;
         self.objects[at] = line.object.0;
-        self.holders[at] = line.holder.0 as u32;
+        self.holders[at] = u32::from(line.holder.0);
         self.stamps[at] = line.stamp.0;
         self.censuses[at] = line.census.0;
         self.len = at + 1;
