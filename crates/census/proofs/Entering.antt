@@ -1,13 +1,10 @@
 -- A name that is told.
-use Rattle.std.proofs.Common.{◌≡◌, ℕ, suc, ◌+◌, ◌<◌, ◌≤◌, Bool, true, false, ◌||◌, eqb, ltb, List, [], ◌∷◌, ◌++◌, length, take, drop, sym, refl, ap, ◌∙◌, ⊎_elim, arith}
+use Rattle.std.proofs.Common.{◌≡◌, ℕ, suc, ◌+◌, ◌<◌, ◌≤◌, Bool, true, false, ◌||◌, eqb, ltb, List, [], ◌∷◌, length, sym, refl, ap, ◌∙◌, ⊎_elim, arith}
 use Rattle.std.specs.List.{insert}
 use Rattle.std.proofs.lemmas.Bool.{ltb-true, ltb-false, eqb-true, eqb-false, lt-ltb, le-ltb, and_parts, and_from, or_parts, or_right, or_from, both_ways, cond-true, cond-false, cond_both, cases_lt, cases_Bool, eq-eqb, ne_eqb}
-use Rattle.std.proofs.lemmas.List.{map-append, take-map, drop-map}
-use Rattle.census.specs.declared.telling.Told as table
-use Rattle.census.specs.Lists.{is_in, above, rising, below}
+use Rattle.tables.specs.Model.{is_in, above, rising, below}
 use Rattle.census.specs.Model.{Told, names, entered, entered_all, untold, unanswered}
-use Rattle.census.specs.Shown.{told_of, shown}
-use Rattle.census.proofs.Places.{above_out}
+use Rattle.tables.proofs.Places.{above_out}
 
 abbrev pub awaited : ℕ → Told
 awaited o = record { name = o; answered = false }
@@ -171,13 +168,3 @@ length_unanswered (t ∷ ts) = let i = length_unanswered ts in ⊎_elim (λ e. r
 
 pub untold_one : (o : ℕ) (ts : List Told) → is_in o (names ts) ≡ false → length (untold (o ∷ []) ts) ≡ 1
 untold_one o ts e = rw e
-
--- the same in the table
-pub table_entered : (o k : ℕ) (ts : List table.Told) (x : table.Told) → shown x ≡ awaited o → is_in o (names (told_of ts)) ≡ false → k ≡ below o (names (told_of ts)) → told_of (insert ts k x) ≡ entered o (told_of ts)
-table_entered o k ts x e out b =
-    map-append shown (take k ts) (x ∷ drop k ts)
-    ∙ ap (λ xs. xs ++ shown x ∷ told_of (drop k ts)) (sym (take-map shown k ts))
-    ∙ ap (λ xs. take k (told_of ts) ++ shown x ∷ xs) (sym (drop-map shown k ts))
-    ∙ ap (λ y. insert (told_of ts) k y) e
-    ∙ ap (λ j. insert (told_of ts) j (awaited o)) b
-    ∙ entered_out o (told_of ts) out

@@ -4,11 +4,12 @@ ghost use Rattle.census.specs.Model.{fresh, joined, joining, counting, stirring}
 ghost use Rattle.census.specs.Standings.{part_of, newly};
 
 use crate::standing::{FirstRound, Standing};
+use crate::tellings::Tellings;
 use std::alloc::Global;
 use wire::{Census, Refusal, Tally};
 
 // What a telling did to the line of its object and its house.
-#[derive(Clone, Copy)]
+#[derive(Clone, Copy, Debug, PartialEq, Eq)]
 pub enum Marked {
     // the line had another number, and has the census's now
     New,
@@ -26,7 +27,7 @@ impl Standing {
     {
         Standing {
             census: Census(0),
-            told: Vec::new(heap),
+            told: Tellings::new(heap),
             tally: Tally(0),
             first: FirstRound::Ahead,
         }
@@ -51,7 +52,7 @@ impl Standing {
         ensures value { result.1 ≡ joining census.0 (part_of self) }
         ensures after { part_of result.0 ≡ joined census.0 (part_of self) }
     {
-        if census.0 <= self.census.0 {
+        if census <= self.census {
             return (self, Err(Refusal::OutOfNumbers));
         }
         (self.begun(census), Ok(()))
@@ -72,12 +73,9 @@ impl Standing {
     pub fn counted(mut self, line: Marked) -> Standing
         ensures { part_of result ≡ counting (newly line) (part_of self) }
     {
-        let newly = match line {
-            Marked::New => 1,
-            Marked::Again => 0,
-            Marked::NoLine => 0,
-        };
-        self.tally = Tally(self.tally.0.saturating_add(newly));
+        if line == Marked::New {
+            self.tally = Tally(self.tally.0.saturating_add(1));
+        }
         self
     }
 
@@ -85,7 +83,7 @@ impl Standing {
     pub fn taken(mut self) -> Standing
         ensures { part_of result ≡ stirring (part_of self) }
     {
-        if let FirstRound::Polled = self.first {
+        if self.first == FirstRound::Polled {
             self.first = FirstRound::Stirred;
         }
         self

@@ -1,12 +1,9 @@
-ghost use Rattle.std.specs.Prelude.{◌≡◌, ◌+◌, ◌≤◌, [], length, is_ok, IfOk, if◌then◌else◌, vec_len, vec_capacity, OnOk};
-ghost use Rattle.census.specs.Lists.{numbers};
-ghost use Rattle.census.specs.Model.{unanswered, telling, due_of};
-ghost use Rattle.census.specs.Shown.{told_of};
+ghost use Rattle.std.specs.Prelude.{◌≡◌, is_ok, IfOk, if◌then◌else◌};
+ghost use Rattle.tables.specs.Shown.{numbers};
+ghost use Rattle.census.specs.Model.{telling, due_of};
 ghost use Rattle.census.specs.Standings.{part_of};
 
 use crate::standing::Standing;
-use crate::table::{count_unanswered, count_untold, enter_all, list_unanswered};
-use crate::telling::Told;
 use std::alloc::AllocError;
 use wire::Name;
 
@@ -17,25 +14,7 @@ impl Standing {
         ensures due { IfOk result.1 (λ v. numbers v.items ≡ due_of (numbers in_use.now) (part_of self)) }
         ensures after { part_of result.0 ≡ (if is_ok result.1 then telling (numbers in_use.now) (part_of self) else part_of self) }
     {
-        let untold = count_untold(&self.told, in_use);
-        let mut due = match room(&mut self.told, untold) {
-            Ok(due) => due,
-            Err(error) => return (self, Err(error)),
-        };
-        enter_all(&mut self.told, in_use);
-        list_unanswered(&self.told, &mut due);
-        (self, Ok(due))
+        let due = self.told.tell(in_use);
+        (self, due)
     }
-}
-
-// Room for so many more among the told, and an empty list with room for all that is unanswered then.
-fn room(told: &mut Vec<Told>, more: usize) -> Result<Vec<Name>, AllocError>
-    ensures same { told.new.items ≡ told.old.items }
-    ensures told { OnOk result (vec_len told.new + more ≤ vec_capacity told.new) }
-    ensures empty { IfOk result (λ v. v.items ≡ []) }
-    ensures due { IfOk result (λ v. length (unanswered (told_of told.old.items)) + more ≤ vec_capacity v) }
-{
-    told.reserve(more)?;
-    let unanswered = count_unanswered(told);
-    Vec::with_capacity(*told.allocator(), unanswered + more)
 }
