@@ -4,7 +4,7 @@ use Rattle.std.specs.List.{insert}
 use Rattle.std.proofs.lemmas.Bool.{ltb-true, ltb-false, eqb-true, eqb-false, lt-ltb, le-ltb, and_parts, and_from, or_parts, or_right, or_from, both_ways, cond-true, cond-false, cond_both, cases_lt, cases_Bool, eq-eqb, ne_eqb}
 use Rattle.tables.specs.Model.{is_in, above, rising, below}
 use Rattle.census.specs.Model.{Told, names, entered, entered_all, untold, unanswered}
-use Rattle.tables.proofs.Places.{above_out}
+use Rattle.tables.proofs.Places.{above_out, above_less}
 
 abbrev pub awaited : ℕ → Told
 awaited o = record { name = o; answered = false }
@@ -78,13 +78,6 @@ is_in_entered q o (t ∷ ts) =
     (λ e. rw e (or_again (eqb o q) (is_in q (names ts))))
     (λ l. refl)
 
-above_more : (x y : ℕ) (xs : List ℕ) → x ≤ y → above y xs ≡ true → above x xs ≡ true
-above_more x y [] l a = refl
-above_more x y (z ∷ xs) l a =
-    let p = and_parts (ltb y z) (above y xs) a in
-    let h = ltb-true y z p.0 in
-    and_from (ltb x z) (above x xs) (lt-ltb x z (omega arith)) (above_more x y xs l p.1)
-
 above_entered : (x o : ℕ) (ts : List Told) → x < o → above x (names ts) ≡ true → above x (names (entered o ts)) ≡ true
 above_entered x o [] l a = and_from (ltb x o) true (lt-ltb x o l) refl
 above_entered x o (t ∷ ts) l a =
@@ -101,7 +94,7 @@ rising_entered o (t ∷ ts) r =
     entered_ways o t ts (λ xs. rising (names xs) ≡ true)
     (λ l. and_from _ _ (above_entered t.name o ts l p.0) (rising_entered o ts p.1))
     (λ e. r)
-    (λ l. and_from _ _ (and_from (ltb o t.name) _ (lt-ltb o t.name l) (above_more o t.name (names ts) (omega arith) p.0)) r)
+    (λ l. and_from _ _ (and_from (ltb o t.name) _ (lt-ltb o t.name l) (above_less o t.name (names ts) (omega arith) p.0)) r)
 
 pub rising_entered_all : (us : List ℕ) (ts : List Told) → rising (names ts) ≡ true → rising (names (entered_all us ts)) ≡ true
 rising_entered_all [] ts r = r

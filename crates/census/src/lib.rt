@@ -7,7 +7,6 @@ mod mood;
 mod rounds;
 mod standing;
 mod steps;
-mod tell;
 mod telling;
 mod tellings;
 

@@ -1,12 +1,13 @@
-ghost use Rattle.std.specs.Prelude.{◌≡◌};
+ghost use Rattle.std.specs.Prelude.{◌≡◌, is_ok, IfOk, if◌then◌else◌};
+ghost use Rattle.tables.specs.Shown.{numbers};
 ghost use Rattle.census.specs.Laws.{Laws};
-ghost use Rattle.census.specs.Model.{fresh, joined, joining, counting, stirring};
+ghost use Rattle.census.specs.Model.{fresh, joined, joining, telling, due_of, counting, stirring};
 ghost use Rattle.census.specs.Standings.{part_of, newly};
 
 use crate::standing::{FirstRound, Standing};
 use crate::tellings::Tellings;
-use std::alloc::Global;
-use wire::{Census, Refusal, Tally};
+use std::alloc::{AllocError, Global};
+use wire::{Census, Name, Refusal, Tally};
 
 // What a telling did to the line of its object and its house.
 #[derive(Clone, Copy, Debug, PartialEq, Eq)]
@@ -67,6 +68,16 @@ impl Standing {
         self.tally = Tally(0);
         self.first = FirstRound::Ahead;
         self
+    }
+
+    // The house tells: what is in use is told now, and all that is not answered is to be sent, each name once, rising,
+    // also what was sent before, since that may be lost. Where memory is wanting nothing changes.
+    pub fn tell(mut self, in_use: &[Name]) -> (Standing, Result<Vec<Name>, AllocError>)
+        ensures due { IfOk result.1 (λ v. numbers v.items ≡ due_of (numbers in_use.now) (part_of self)) }
+        ensures after { part_of result.0 ≡ (if is_ok result.1 then telling (numbers in_use.now) (part_of self) else part_of self) }
+    {
+        let due = self.told.tell(in_use);
+        (self, due)
     }
 
     // A telling came: the tally grows if it gave a line its number.

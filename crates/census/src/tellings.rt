@@ -9,8 +9,8 @@ use std::alloc::{AllocError, Global};
 use tables::{find, place_of};
 use wire::Name;
 
-// What was told in this census. A sorted list and no map: where memory is wanting a telling changes nothing, so that all its
-// room is taken ahead, and a map takes none ahead.
+// What was told in this census, rising. No map: where memory is wanting a telling changes nothing, so that its room is taken
+// ahead, and none can be taken ahead in a `BTreeMap`.
 #[derive(Drop)]
 pub struct Tellings {
     pub(crate) entries: Vec<Told>,

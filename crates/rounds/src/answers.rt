@@ -25,6 +25,7 @@ impl Answers {
     pub(crate) fn with(mut self, house: House, answer: Said) -> Answers
         ensures { slots_of result ≡ slice_set (slots_of self) house.0 (slot (Some answer)) }
     {
+        // a `get_mut` in place of the test gets no proof: what it leaves in the array has no name there
         if house.0 < 16 {
             self.slots[house.0 as usize] = Some(answer);
         }
