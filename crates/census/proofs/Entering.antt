@@ -1,13 +1,10 @@
 -- A name that is told.
-use Rattle.std.proofs.Common.{◌≡◌, ℕ, suc, ◌+◌, ◌<◌, ◌≤◌, Bool, true, false, ◌||◌, eqb, ltb, List, [], ◌∷◌, ◌++◌, length, take, drop, sym, refl, ap, ◌∙◌, ⊎_elim, arith}
+use Rattle.std.proofs.Common.{◌≡◌, ℕ, suc, ◌+◌, ◌<◌, ◌≤◌, Bool, true, false, ◌||◌, eqb, ltb, List, [], ◌∷◌, length, sym, refl, ap, ◌∙◌, ⊎_elim, arith}
 use Rattle.std.specs.List.{insert}
 use Rattle.std.proofs.lemmas.Bool.{ltb-true, ltb-false, eqb-true, eqb-false, lt-ltb, le-ltb, and_parts, and_from, or_parts, or_right, or_from, both_ways, cond-true, cond-false, cond_both, cases_lt, cases_Bool, eq-eqb, ne_eqb}
-use Rattle.std.proofs.lemmas.List.{map-append, take-map, drop-map}
-use Rattle.census.specs.declared.telling.Told as table
-use Rattle.census.specs.Lists.{is_in, above, rising, below}
+use Rattle.tables.specs.Model.{is_in, above, rising, below}
 use Rattle.census.specs.Model.{Told, names, entered, entered_all, untold, unanswered}
-use Rattle.census.specs.Shown.{told_of, shown}
-use Rattle.census.proofs.Places.{above_out}
+use Rattle.tables.proofs.Places.{above_out, above_less}
 
 abbrev pub awaited : ℕ → Told
 awaited o = record { name = o; answered = false }
@@ -81,13 +78,6 @@ is_in_entered q o (t ∷ ts) =
     (λ e. rw e (or_again (eqb o q) (is_in q (names ts))))
     (λ l. refl)
 
-above_more : (x y : ℕ) (xs : List ℕ) → x ≤ y → above y xs ≡ true → above x xs ≡ true
-above_more x y [] l a = refl
-above_more x y (z ∷ xs) l a =
-    let p = and_parts (ltb y z) (above y xs) a in
-    let h = ltb-true y z p.0 in
-    and_from (ltb x z) (above x xs) (lt-ltb x z (omega arith)) (above_more x y xs l p.1)
-
 above_entered : (x o : ℕ) (ts : List Told) → x < o → above x (names ts) ≡ true → above x (names (entered o ts)) ≡ true
 above_entered x o [] l a = and_from (ltb x o) true (lt-ltb x o l) refl
 above_entered x o (t ∷ ts) l a =
@@ -104,7 +94,7 @@ rising_entered o (t ∷ ts) r =
     entered_ways o t ts (λ xs. rising (names xs) ≡ true)
     (λ l. and_from _ _ (above_entered t.name o ts l p.0) (rising_entered o ts p.1))
     (λ e. r)
-    (λ l. and_from _ _ (and_from (ltb o t.name) _ (lt-ltb o t.name l) (above_more o t.name (names ts) (omega arith) p.0)) r)
+    (λ l. and_from _ _ (and_from (ltb o t.name) _ (lt-ltb o t.name l) (above_less o t.name (names ts) (omega arith) p.0)) r)
 
 pub rising_entered_all : (us : List ℕ) (ts : List Told) → rising (names ts) ≡ true → rising (names (entered_all us ts)) ≡ true
 rising_entered_all [] ts r = r
@@ -171,13 +161,3 @@ length_unanswered (t ∷ ts) = let i = length_unanswered ts in ⊎_elim (λ e. r
 
 pub untold_one : (o : ℕ) (ts : List Told) → is_in o (names ts) ≡ false → length (untold (o ∷ []) ts) ≡ 1
 untold_one o ts e = rw e
-
--- the same in the table
-pub table_entered : (o k : ℕ) (ts : List table.Told) (x : table.Told) → shown x ≡ awaited o → is_in o (names (told_of ts)) ≡ false → k ≡ below o (names (told_of ts)) → told_of (insert ts k x) ≡ entered o (told_of ts)
-table_entered o k ts x e out b =
-    map-append shown (take k ts) (x ∷ drop k ts)
-    ∙ ap (λ xs. xs ++ shown x ∷ told_of (drop k ts)) (sym (take-map shown k ts))
-    ∙ ap (λ xs. take k (told_of ts) ++ shown x ∷ xs) (sym (drop-map shown k ts))
-    ∙ ap (λ y. insert (told_of ts) k y) e
-    ∙ ap (λ j. insert (told_of ts) j (awaited o)) b
-    ∙ entered_out o (told_of ts) out

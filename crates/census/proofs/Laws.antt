@@ -2,12 +2,13 @@
 use Rattle.std.proofs.Common.{◌≡◌, ℕ, suc, ◌+◌, ◌<◌, ◌≤◌, min, Bool, true, false, not, ◌&&◌, ◌||◌, eqb, ltb, leb, ◌⊎◌, List, [], ◌∷◌, length, Decides, sym, refl, ap, ◌∙◌, subst, inl, inr, ⊎_elim, arith}
 use Rattle.std.proofs.lemmas.Bool.{lt-leb, eq-eqb, eqb-true, and_parts, and_from, or_cases, or_left, or_right, not-true, not_from_false, both_ways, cond-true, cond-false, cond_both, cases_Bool}
 use Rattle.wire.specs.declared.names.House.{House}
-use Rattle.census.specs.Lists.{is_in, above, rising}
+use Rattle.tables.specs.Model.{is_in, above, rising}
 use Rattle.census.specs.Model.{Told, Part, fresh, with_told, names, settle, settled, answered_in, untold, unanswered, entered, entered_all, joined, counting, stirring, hearing, telling, due_of, calm, says_calm, polling, replied, replying}
 use Rattle.census.specs.Laws.{Sound, IsTold, IsAnswered, Calm, Due, Step, Later, Kept, Laws}
 use Rattle.census.specs.Laws.Later.{still, then}
-use Rattle.census.proofs.Places.{above_out}
+use Rattle.tables.proofs.Places.{above_out}
 use Rattle.census.proofs.Settling.{names_settled}
+use Rattle.census.proofs.Tabled.{names_told}
 use Rattle.census.proofs.Entering.{entered_ways, entered_in, is_in_entered, rising_entered_all}
 
 -- a join
@@ -393,7 +394,7 @@ count_none p h =
 pub laws : Laws
 laws =
     record {
-      sound = λ s. s.ordered;
+      sound = λ s. ap rising (names_told (s.told.entries.items)) ∙ s.told.ordered;
       forgets = λ c p q h k. join_fresh c p h ∙ sym (join_fresh c q k);
       stays = stays;
       tells = tells;

@@ -1,5 +1,4 @@
-pub mod Places
 pub mod Settling
-pub mod Counts
 pub mod Entering
+pub mod Tabled
 pub mod Laws

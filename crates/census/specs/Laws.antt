@@ -3,7 +3,7 @@ use Rattle.std.specs.Prelude.{◌≡◌, ℕ, ◌<◌, ◌≤◌, true, false, �
 use Rattle.wire.specs.declared.names.House.{House}
 use Rattle.census.specs.declared.standing.Standing.{Standing}
 use Rattle.census.specs.declared.steps.Marked.TheVariants.{Again, NoLine}
-use Rattle.census.specs.Lists.{is_in, rising}
+use Rattle.tables.specs.Model.{is_in, rising}
 use Rattle.census.specs.Model.{Part, names, answered_in, joined, counting, stirring, hearing, telling, due_of, calm, says_calm, polling, replied, replying}
 use Rattle.census.specs.Standings.{part_of, newly}
 

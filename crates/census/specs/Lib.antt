@@ -1,4 +1,3 @@
-pub mod Lists
 pub mod Model
 pub mod Shown
 pub mod Standings

@@ -5,7 +5,7 @@ use Rattle.wire.specs.declared.message.Message.TheVariants.{Reply}
 use Rattle.wire.specs.declared.names.House.{House}
 use Rattle.wire.specs.declared.refusal.Refusal.{Refusal}
 use Rattle.wire.specs.declared.refusal.Refusal.TheVariants.{OtherCensus, OutOfNumbers}
-use Rattle.census.specs.Lists.{is_in}
+use Rattle.tables.specs.Model.{is_in}
 
 -- a far reference that was told in this census, and whether the telling was answered
 pub record Told : Type 0 where

@@ -19,7 +19,7 @@ is_stirred Polled = false
 is_stirred Stirred = true
 
 abbrev pub part_of : Standing → Part
-part_of s = record { census = s.census.0; told = told_of (vec_items s.told); tally = s.tally.0; polled = is_polled s.first; stirred = is_stirred s.first }
+part_of s = record { census = s.census.0; told = told_of (vec_items s.told.entries); tally = s.tally.0; polled = is_polled s.first; stirred = is_stirred s.first }
 
 -- how many lines got their number by a telling
 abbrev pub newly : Marked → ℕ

@@ -1,12 +1,11 @@
 ghost use Rattle.std.specs.Prelude.{◌≡◌};
-ghost use Rattle.census.specs.Lists.{numbers};
+ghost use Rattle.tables.specs.Shown.{numbers};
 ghost use Rattle.census.specs.Model.{within, hearing, calm, says_calm, polling, replied, replying};
 ghost use Rattle.census.specs.Moods.{is_calm};
-ghost use Rattle.census.specs.Standings.{part_of, is_stirred};
+ghost use Rattle.census.specs.Standings.{part_of};
 
 use crate::mood::Mood;
 use crate::standing::{FirstRound, Standing};
-use crate::table::{count_unanswered, count_untold, settle};
 use wire::{Census, House, Message, Name, Refusal, RoundNumber};
 
 impl Standing {
@@ -14,7 +13,7 @@ impl Standing {
     fn of_census(&self, census: Census) -> Result<(), Refusal>
         ensures { result ≡ within census.0 (part_of self.now) }
     {
-        if census.0 != self.census.0 {
+        if census != self.census {
             return Err(Refusal::OtherCensus);
         }
         Ok(())
@@ -25,34 +24,31 @@ impl Standing {
         ensures value { result.1 ≡ within census.0 (part_of self) }
         ensures after { part_of result.0 ≡ hearing census.0 object.0 (part_of self) }
     {
-        if let Err(refusal) = self.of_census(census) {
-            return (self, Err(refusal));
-        }
-        settle(&mut self.told, object);
-        (self, Ok(()))
+        let answer = self.hear(census, object);
+        (self, answer)
+    }
+
+    fn hear(&mut self, census: Census, object: Name) -> Result<(), Refusal>
+        ensures value { result ≡ within census.0 (part_of self.old) }
+        ensures after { part_of self.new ≡ hearing census.0 object.0 (part_of self.old) }
+    {
+        self.of_census(census)?;
+        self.told.settle(object);
+        Ok(())
     }
 
     // Whether every far reference in use was told in this census, and every telling answered, also of what is in use no longer.
     pub fn calm(&self, in_use: &[Name]) -> bool
         ensures { result ≡ calm (numbers in_use.now) (part_of self.now) }
     {
-        count_untold(&self.told, in_use) == 0 && count_unanswered(&self.told) == 0
+        self.told.count_untold(in_use) == 0 && self.told.count_unanswered() == 0
     }
 
     // The same, as a house says it of itself.
     pub fn mood(&self, in_use: &[Name]) -> Mood
         ensures { is_calm result ≡ calm (numbers in_use.now) (part_of self.now) }
     {
-        Mood::from_calm(self.calm(in_use))
-    }
-
-    fn is_stirred(&self) -> bool
-        ensures { result ≡ is_stirred self.now.first }
-    {
-        match self.first {
-            FirstRound::Stirred => true,
-            FirstRound::Ahead | FirstRound::Polled => false,
-        }
+        Mood::from(self.calm(in_use))
     }
 
     // What the house says to a round. Until every house has answered round 1, one that is not in the census yet may hand out a
@@ -60,27 +56,24 @@ impl Standing {
     fn says_calm(&self, number: RoundNumber, in_use: &[Name]) -> bool
         ensures { result ≡ says_calm number.0 (numbers in_use.now) (part_of self.now) }
     {
-        if number.0 == 2 && self.is_stirred() {
+        if number == RoundNumber(2) && self.first == FirstRound::Stirred {
             return false;
         }
         self.calm(in_use)
     }
 
     // The house has answered a round.
-    fn polled(mut self, number: RoundNumber) -> Standing
-        ensures { part_of result ≡ polling number.0 (part_of self) }
+    fn poll(&mut self, number: RoundNumber)
+        ensures { part_of self.new ≡ polling number.0 (part_of self.old) }
     {
-        if number.0 == 1 {
-            if let FirstRound::Ahead = self.first {
-                self.first = FirstRound::Polled;
-            }
+        if number == RoundNumber(1) && self.first == FirstRound::Ahead {
+            self.first = FirstRound::Polled;
         }
-        self
     }
 
     // What house `from`, which this part is of, answers to a round of its own census. A higher one has to be joined first.
     pub fn reply(
-        self,
+        mut self,
         from: House,
         census: Census,
         number: RoundNumber,
@@ -89,9 +82,21 @@ impl Standing {
         ensures value { result.1 ≡ replying from census.0 number.0 (numbers in_use.now) (part_of self) }
         ensures after { part_of result.0 ≡ replied census.0 number.0 (part_of self) }
     {
-        if let Err(refusal) = self.of_census(census) {
-            return (self, Err(refusal));
-        }
+        let answer = self.respond(from, census, number, in_use);
+        (self, answer)
+    }
+
+    fn respond(
+        &mut self,
+        from: House,
+        census: Census,
+        number: RoundNumber,
+        in_use: &[Name],
+    ) -> Result<Message, Refusal>
+        ensures value { result ≡ replying from census.0 number.0 (numbers in_use.now) (part_of self.old) }
+        ensures after { part_of self.new ≡ replied census.0 number.0 (part_of self.old) }
+    {
+        self.of_census(census)?;
         let message = Message::Reply {
             census,
             number,
@@ -99,6 +104,7 @@ impl Standing {
             calm: self.says_calm(number, in_use),
             tally: self.tally,
         };
-        (self.polled(number), Ok(message))
+        self.poll(number);
+        Ok(message)
     }
 }

@@ -7,9 +7,8 @@ mod mood;
 mod rounds;
 mod standing;
 mod steps;
-mod table;
-mod tell;
 mod telling;
+mod tellings;
 
 pub use mood::Mood;
 pub use rounds::{ASKER, is_asker};

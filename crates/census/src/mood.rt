@@ -2,7 +2,7 @@ ghost use Rattle.std.specs.Prelude.{◌≡◌};
 ghost use Rattle.census.specs.Moods.{is_calm};
 
 // What a house says of itself when a round asks it.
-#[derive(Clone, Copy)]
+#[derive(Clone, Copy, Debug, PartialEq, Eq)]
 pub enum Mood {
     // every far reference in use was told in this census, and every telling answered
     Calm,
@@ -15,16 +15,15 @@ impl Mood {
     pub fn is_calm(self) -> bool
         ensures { result ≡ is_calm self }
     {
-        match self {
-            Mood::Calm => true,
-            Mood::Restless => false,
-        }
+        self == Mood::Calm
     }
+}
 
-    // The mood that a reply tells of.
-    pub fn from_calm(calm: bool) -> Mood
-        ensures { is_calm result ≡ calm }
-    {
+// The mood that a reply tells of.
+impl From<bool> for Mood {
+    ghost from_gives = { λ calm mood. is_calm mood ≡ calm };
+
+    fn from(calm: bool) -> Mood {
         if calm { Mood::Calm } else { Mood::Restless }
     }
 }

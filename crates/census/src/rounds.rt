@@ -10,5 +10,5 @@ pub const ASKER: House = House(0);
 pub fn is_asker(house: House) -> bool
     ensures { result ≡ asks house.0 }
 {
-    house.0 == ASKER.0
+    house == ASKER
 }

@@ -1,13 +1,8 @@
-ghost use Rattle.std.specs.Prelude.{◌≡◌, true};
-ghost use Rattle.census.specs.Lists.{rising};
-ghost use Rattle.census.specs.Model.{names};
-ghost use Rattle.census.specs.Shown.{told_of};
-
-use crate::telling::Told;
+use crate::tellings::Tellings;
 use wire::{Census, Tally};
 
 // How a house stands to round 1, the first time in a census that every house is asked whether it is calm.
-#[derive(Clone, Copy)]
+#[derive(Clone, Copy, Debug, PartialEq, Eq)]
 pub enum FirstRound {
     // not answered yet
     Ahead,
@@ -21,10 +16,8 @@ pub enum FirstRound {
 #[derive(Drop)]
 pub struct Standing {
     pub(crate) census: Census,
-    // in rising order of names
-    pub(crate) told: Vec<Told>,
+    pub(crate) told: Tellings,
     // how many lines got this census's number because of a telling
     pub(crate) tally: Tally,
     pub(crate) first: FirstRound,
-    ghost ordered: { rising (names (told_of told.items)) ≡ true },
 }

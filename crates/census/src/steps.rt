@@ -1,14 +1,16 @@
-ghost use Rattle.std.specs.Prelude.{◌≡◌};
+ghost use Rattle.std.specs.Prelude.{◌≡◌, is_ok, IfOk, if◌then◌else◌};
+ghost use Rattle.tables.specs.Shown.{numbers};
 ghost use Rattle.census.specs.Laws.{Laws};
-ghost use Rattle.census.specs.Model.{fresh, joined, joining, counting, stirring};
+ghost use Rattle.census.specs.Model.{fresh, joined, joining, telling, due_of, counting, stirring};
 ghost use Rattle.census.specs.Standings.{part_of, newly};
 
 use crate::standing::{FirstRound, Standing};
-use std::alloc::Global;
-use wire::{Census, Refusal, Tally};
+use crate::tellings::Tellings;
+use std::alloc::{AllocError, Global};
+use wire::{Census, Name, Refusal, Tally};
 
 // What a telling did to the line of its object and its house.
-#[derive(Clone, Copy)]
+#[derive(Clone, Copy, Debug, PartialEq, Eq)]
 pub enum Marked {
     // the line had another number, and has the census's now
     New,
@@ -26,7 +28,7 @@ impl Standing {
     {
         Standing {
             census: Census(0),
-            told: Vec::new(heap),
+            told: Tellings::new(heap),
             tally: Tally(0),
             first: FirstRound::Ahead,
         }
@@ -51,7 +53,7 @@ impl Standing {
         ensures value { result.1 ≡ joining census.0 (part_of self) }
         ensures after { part_of result.0 ≡ joined census.0 (part_of self) }
     {
-        if census.0 <= self.census.0 {
+        if census <= self.census {
             return (self, Err(Refusal::OutOfNumbers));
         }
         (self.begun(census), Ok(()))
@@ -68,16 +70,23 @@ impl Standing {
         self
     }
 
+    // The house tells: what is in use is told now, and all that is not answered is to be sent, each name once, rising,
+    // also what was sent before, since that may be lost. Where memory is wanting nothing changes.
+    pub fn tell(mut self, in_use: &[Name]) -> (Standing, Result<Vec<Name>, AllocError>)
+        ensures due { IfOk result.1 (λ v. numbers v.items ≡ due_of (numbers in_use.now) (part_of self)) }
+        ensures after { part_of result.0 ≡ (if is_ok result.1 then telling (numbers in_use.now) (part_of self) else part_of self) }
+    {
+        let due = self.told.tell(in_use);
+        (self, due)
+    }
+
     // A telling came: the tally grows if it gave a line its number.
     pub fn counted(mut self, line: Marked) -> Standing
         ensures { part_of result ≡ counting (newly line) (part_of self) }
     {
-        let newly = match line {
-            Marked::New => 1,
-            Marked::Again => 0,
-            Marked::NoLine => 0,
-        };
-        self.tally = Tally(self.tally.0.saturating_add(newly));
+        if line == Marked::New {
+            self.tally = Tally(self.tally.0.saturating_add(1));
+        }
         self
     }
 
@@ -85,7 +94,7 @@ impl Standing {
     pub fn taken(mut self) -> Standing
         ensures { part_of result ≡ stirring (part_of self) }
     {
-        if let FirstRound::Polled = self.first {
+        if self.first == FirstRound::Polled {
             self.first = FirstRound::Stirred;
         }
         self

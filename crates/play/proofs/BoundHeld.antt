@@ -1,9 +1,8 @@
 -- Each reference that a house has told has a line of that house at its home, so there are no more of them than lines.
 use Rattle.std.proofs.Common.{◌≡◌, ℕ, zero, suc, ◌+◌, ◌<◌, ◌≤◌, true, false, cond, eqb, ltb, List, [], ◌∷◌, ◌++◌, length, sym, refl, ap, ◌∙◌, subst, ⊎_elim, arith, length-append}
 use Rattle.std.proofs.lemmas.Bool.{cond_both, and_parts, or_cases, or_left, or_right, both_ways, eqb-true, eq-eqb, ltb-true, cases_eq}
-use Rattle.tables.specs.Model.{without_first}
 use Rattle.lines.specs.Listed.{Listed, is_of, listed}
-use Rattle.census.specs.Lists.{is_in, above, rising}
+use Rattle.tables.specs.Model.{is_in, above, rising, without_first}
 use Rattle.play.specs.Play.{World}
 use Rattle.play.specs.Bound.{line_count}
 use Rattle.play.proofs.BoundTells.{sum, sum_same}

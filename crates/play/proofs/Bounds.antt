@@ -4,7 +4,7 @@ use Rattle.std.proofs.lemmas.Bool.{cond_both, cond-true, eq-eqb, cases_eq}
 use Rattle.wire.specs.declared.call.Call.TheVariants as call
 use Rattle.wire.specs.Names.{home, house}
 use Rattle.lines.specs.Listed.{listed}
-use Rattle.census.specs.Lists.{is_in}
+use Rattle.tables.specs.Model.{is_in}
 use Rattle.census.specs.Model.{Part, Told, names, unanswered, asker}
 use Rattle.rounds.specs.Model.{Desk, idle}
 use Rattle.rules.specs.House as rules
@@ -15,7 +15,6 @@ use Rattle.play.specs.Exact.{Joined}
 use Rattle.play.specs.Bound.{line_count, most, Bounded, FewLines, calls_in, is_tell, FewPasses}
 use Rattle.play.specs.Settle.{and_then, calling, each, word_to, words, above, joins, tallies, passes, rounding, collects, completing, settling}
 use Rattle.play.proofs.Programs.{truth}
-use Rattle.play.proofs.Marking.{same_in}
 use Rattle.play.proofs.Promise.{has_back, safe}
 use Rattle.play.proofs.Tracking.{Kept, kept}
 use Rattle.play.proofs.FairEntries.{plays_append, kept_plays, Cleanly, way_plays, each_brings}
@@ -139,7 +138,7 @@ told_few n c w some x fair own =
 
     there : (i o : ℕ) → i < n → is_in o (names (w.house i).part.told) ≡ true → (j : ℕ) × (j < n) × (listed o i (w.house j).list ≡ true)
     there i o l m =
-        let said = spoken_of x.runs i o (truth (sym (same_in o (names (w.house i).part.told)) ∙ m)) in
+        let said = spoken_of x.runs i o (truth m) in
         let has = has_back n w (fair.spoken (rules.census (w.house i)) o i (le_of_eq (sym (own i l))) said) in
         let part = (x.sound i l).part in
         (home o, subst (λ (z : ℕ). home o < z) (x.houses i l) (part.named o m).near, ⊎_elim (λ e. absurd (part.far o m (e ∙ sym (x.self i l)))) (λ e. e) ((safe n w some x).there i o has).known)

@@ -5,7 +5,7 @@ use Rattle.std.proofs.lemmas.Bool.{or_left, or_right, cond-true, cond-false, eq-
 use Rattle.wire.specs.declared.call.Call.TheVariants as call
 use Rattle.wire.specs.declared.refusal.Refusal.TheVariants.{Misdelivered, OtherCensus}
 use Rattle.wire.specs.Names.{home}
-use Rattle.census.specs.Lists.{is_in}
+use Rattle.tables.specs.Model.{is_in}
 use Rattle.census.specs.Model.{hearing, due_of, calm}
 use Rattle.rules.specs.House.{House, self, census, with_part}
 use Rattle.rules.specs.Step.{Outcome, Letter, sends, refused, used, in_census, caught_up, marks, step, tell}

@@ -4,7 +4,7 @@ use Rattle.std.proofs.lemmas.Bool.{or_cases, or_left, or_right, cond-true, eqb-t
 use Rattle.wire.specs.declared.message.Message.TheVariants as message
 use Rattle.wire.specs.Names.{home, name, house}
 use Rattle.lines.specs.Listed.{Listed, objects_in}
-use Rattle.census.specs.Lists.{is_in}
+use Rattle.tables.specs.Model.{is_in}
 use Rattle.census.specs.Model.{Part, names, answered_in, settled, with_told, hearing, telling, due_of, calm}
 use Rattle.census.specs.Laws.{IsTold, IsAnswered}
 use Rattle.census.proofs.Laws.{laws}
@@ -14,7 +14,6 @@ use Rattle.rules.specs.House.{House, self, houses, census, with_part}
 use Rattle.rules.specs.Step.{Letter, letter, used}
 use Rattle.rules.specs.Sound.{Sound}
 use Rattle.rules.proofs.Sound.{used_far}
-use Rattle.play.proofs.Marking.{same_in}
 use Rattle.play.proofs.CompleteGrows.{Grows}
 
 -- house i tells of o, and is answered
@@ -82,7 +81,7 @@ awaiting_tells h s =
 -- whom it tells
 pub due_far : (h : House) → Sound h → (o : ℕ) → is_in o (due_of (used h) h.part) ≡ true → (home o < houses h) × (home o ≡ self h → ⊥)
 due_far h s o m =
-    ⊎_elim (λ u. let z = used_far h s o (sym (same_in o (used h)) ∙ u) in (z.1.near, z.0)) (λ t. ((s.part.named o t).near, s.part.far o t))
+    ⊎_elim (λ u. let z = used_far h s o u in (z.1.near, z.0)) (λ t. ((s.part.named o t).near, s.part.far o t))
     ((laws.due (used h) h.part s.part.order).only o m).0
 
 used_kept : (h g : House) → Grows h g → g.list ≡ h.list → used g ≡ used h

@@ -9,7 +9,6 @@ use Rattle.wire.specs.declared.refusal.Refusal.TheVariants.{Misdelivered, OtherC
 use Rattle.tables.specs.Model.{is_in}
 use Rattle.tables.specs.Met as tables
 use Rattle.lines.specs.Listed.{listed, listed_in, marked, objects_in}
-use Rattle.census.specs.Lists as lists
 use Rattle.census.specs.Model.{Told, names, answered_in, says_calm}
 use Rattle.census.specs.Model as census
 use Rattle.census.specs.Laws.{Calm}
@@ -28,11 +27,6 @@ use Rattle.play.proofs.Frame.{Way, Tracks, tracks_unless, arrives, alike_by, hou
 use Rattle.play.proofs.Programs.{truth}
 use Rattle.play.proofs.Cleaning.{untruth}
 use Rattle.play.proofs.Catching.{tracks_caught}
-
--- names in lists, as the census says it
-pub same_in : (o : ℕ) (xs : List ℕ) → lists.is_in o xs ≡ is_in o xs
-same_in o [] = refl
-same_in o (x ∷ xs) = ap (λ (b : Bool). eqb x o || b) (same_in o xs)
 
 pub answered_in_part : (o : ℕ) (ts : List Told) → is_in o (answered_names ts) ≡ answered_in o ts
 answered_in_part o [] = refl
@@ -89,15 +83,15 @@ module _ (n i : ℕ) (w : World) (f : Firm n i (w.house i)) where
   says_fine r = (
     λ e. let z = law.0 e in (
       record {
-        all_told = λ o away u. truth (sym (same_in o (names h.part.told)) ∙ z.0.all_told o (same_in o (used h) ∙ uses.all o (λ q. away (q ∙ f.self), u)));
-        all_answered = λ o t. truth (answered_in_part o h.part.told ∙ z.0.all_answered o (same_in o (names h.part.told) ∙ untruth t));
+        all_told = λ o away u. truth (z.0.all_told o (uses.all o (λ q. away (q ∙ f.self), u)));
+        all_answered = λ o t. truth (answered_in_part o h.part.told ∙ z.0.all_answered o (untruth t));
       },
       λ two t. z.1 two (untruth t),
     ),
     λ z. law.1 (
       record {
-        all_told = λ o m. let u = uses.only o (sym (same_in o (used h)) ∙ m) in same_in o (names h.part.told) ∙ untruth (z.0.all_told o (λ q. u.0 (q ∙ sym f.self)) u.1);
-        all_answered = λ o t. sym (answered_in_part o h.part.told) ∙ untruth (z.0.all_answered o (truth (sym (same_in o (names h.part.told)) ∙ t)));
+        all_told = λ o m. let u = uses.only o m in untruth (z.0.all_told o (λ q. u.0 (q ∙ sym f.self)) u.1);
+        all_answered = λ o t. sym (answered_in_part o h.part.told) ∙ untruth (z.0.all_answered o (truth t));
       },
       λ two t. z.1 two (truth t),
     ),

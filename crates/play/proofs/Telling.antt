@@ -1,5 +1,5 @@
 -- The call tell: a telling for each far reference in use, and again for each that was not answered.
-use Rattle.std.proofs.Common.{◌≡◌, ℕ, ◌<◌, Bool, true, false, cond, ◌&&◌, ◌||◌, eqb, List, [], ◌∷◌, ◌++◌, map, sym, refl, ap, ◌∙◌, subst, inl, inr, ⊎_elim, eqb→eq}
+use Rattle.std.proofs.Common.{◌≡◌, ℕ, ◌<◌, Bool, true, false, cond, ◌&&◌, ◌||◌, eqb, List, [], ◌∷◌, ◌++◌, map, sym, refl, ap, ◌∙◌, subst, inl, ⊎_elim, eqb→eq}
 use mathlib.Core.List.Memᴰ
 use mathlib.Core.List.{Memᴰ}
 use lib.Dec.{eqb_refl}
@@ -7,7 +7,6 @@ use Rattle.std.proofs.lemmas.Bool.{or_cases, or_left, or_right, and_parts, cases
 use Rattle.wire.specs.Names.{home}
 use Rattle.tables.specs.Model.{is_in}
 use Rattle.lines.specs.Listed.{objects_in}
-use Rattle.census.specs.Lists as lists
 use Rattle.census.specs.Model.{names, answered_in, due_of}
 use Rattle.census.specs.Model as census
 use Rattle.census.specs.Laws.{Due}
@@ -29,7 +28,7 @@ use Rattle.play.proofs.Frame.{Way, Tracks, arrives, alike_by, house_kept, house_
 use Rattle.play.proofs.Likeness.{same_test}
 use Rattle.play.proofs.Programs.{truth}
 use Rattle.play.proofs.Cleaning.{untruth}
-use Rattle.play.proofs.Marking.{same_in, answered_in_part}
+use Rattle.play.proofs.Marking.{answered_in_part}
 
 abbrev marks_of : ℕ → ℕ → List ℕ → List Msg
 marks_of c i os = map (λ o. Mark c o i) os
@@ -43,10 +42,10 @@ mark_of c i x [] m = absurd (Memᴰ.not-nil m)
 mark_of c i x (y ∷ os) m = ⊎_elim (λ e. (y, Memᴰ.head refl, e)) (λ r. let z = mark_of c i x os r in (z.0, Memᴰ.tail z.1, z.2)) (Memᴰ.cases_cons m)
 
 -- what is answered was told
-answered_told : (o : ℕ) (ts : List census.Told) → answered_in o ts ≡ true → lists.is_in o (names ts) ≡ true
+answered_told : (o : ℕ) (ts : List census.Told) → answered_in o ts ≡ true → is_in o (names ts) ≡ true
 answered_told o [] e = e
 answered_told o (t ∷ ts) e =
-    ⊎_elim (λ z. or_left (eqb t.name o) (lists.is_in o (names ts)) (and_parts (eqb t.name o) t.answered z).0) (λ z. or_right (eqb t.name o) (lists.is_in o (names ts)) (answered_told o ts z))
+    ⊎_elim (λ z. or_left (eqb t.name o) (is_in o (names ts)) (and_parts (eqb t.name o) t.answered z).0) (λ z. or_right (eqb t.name o) (is_in o (names ts)) (answered_told o ts z))
     (or_cases (eqb t.name o && t.answered) (answered_in o ts) e)
 
 -- told of all of these
@@ -109,8 +108,8 @@ module _ (n i : ℕ) (w : World) (f : Firm n i (w.house i)) (runs : Runs n (seen
   due : Due (used (w.house i)) (w.house i).part (due_of (used (w.house i)) (w.house i).part)
   due = laws.due (used (w.house i)) (w.house i).part f.told
 
-  before : (o : ℕ) → lists.is_in o (names (w.house i).part.told) ≡ true → Memᴰ (Mark (rules.census (w.house i)) o i) (seen n w).net.sent
-  before o t = spoken_of runs i o (truth (sym (same_in o (names (w.house i).part.told)) ∙ t))
+  before : (o : ℕ) → is_in o (names (w.house i).part.told) ≡ true → Memᴰ (Mark (rules.census (w.house i)) o i) (seen n w).net.sent
+  before o t = spoken_of runs i o (truth t)
 
   sent_both : Both (marks_of (rules.census (w.house i)) i (used (w.house i)) ++ (seen n w).net.sent) (msgs_of (map (telling_of (w.house i)) ds) ++ (seen n w).net.sent)
   unfolding ds
@@ -125,23 +124,23 @@ module _ (n i : ℕ) (w : World) (f : Firm n i (w.house i)) (runs : Runs n (seen
       forth x z =
           there x z.0 _ z.2
           (⊎_elim (λ e. Memᴰ.append_right (marks_of (rules.census h) i (due_of us h.part)) (before z.0 (answered_told z.0 h.part.told e)))
-          (λ e. Memᴰ.append_left (seen n w).net.sent (mark_in (rules.census h) i z.0 (due_of us h.part) (is_in→mem z.0 (due_of us h.part) (truth (sym (same_in z.0 (due_of us h.part)) ∙ due.every z.0 (inl (same_in z.0 us ∙ untruth (mem→is_in z.1))) (λ t. both_ways (answered_in z.0 h.part.told) e t))))))
+          (λ e. Memᴰ.append_left (seen n w).net.sent (mark_in (rules.census h) i z.0 (due_of us h.part) (is_in→mem z.0 (due_of us h.part) (truth (due.every z.0 (inl (untruth (mem→is_in z.1))) (λ t. both_ways (answered_in z.0 h.part.told) e t))))))
           (cases_Bool (answered_in z.0 h.part.told)))
 
       back : (x : Msg) → (o : ℕ) × Memᴰ o (due_of (used (w.house i)) (w.house i).part) × (x ≡ Mark (rules.census (w.house i)) o i) → Memᴰ x (marks_of (rules.census (w.house i)) i (used (w.house i)) ++ (seen n w).net.sent)
       back x z =
           there x z.0 _ z.2
-          (⊎_elim (λ e. Memᴰ.append_left (seen n w).net.sent (mark_in (rules.census h) i z.0 us (is_in→mem z.0 us (truth (sym (same_in z.0 us) ∙ e)))))
+          (⊎_elim (λ e. Memᴰ.append_left (seen n w).net.sent (mark_in (rules.census h) i z.0 us (is_in→mem z.0 us (truth e))))
           (λ e. Memᴰ.append_right (marks_of (rules.census h) i us) (before z.0 e))
-          (due.only z.0 (same_in z.0 (due_of us h.part) ∙ untruth (mem→is_in z.1))).0)
+          (due.only z.0 (untruth (mem→is_in z.1))).0)
 
   part_told : AlikePart (tellings (used (w.house i)) (part_seen (w.house i).part)) (part_seen (census.telling (used (w.house i)) (w.house i).part))
   part_told =
       let rest = tellings_rest us (part_seen h.part) in
       record {
         told = λ q. told_all us (part_seen h.part) q ∙ same_test (is_in q us || is_in q (names h.part.told)) (is_in q (names (census.telling us h.part).told))
-            (λ e. sym (same_in q (names (census.telling us h.part).told)) ∙ (laws.tells us q h.part).0.1 (⊎_elim (λ z. inl (same_in q us ∙ z)) (λ z. inr (same_in q (names h.part.told) ∙ z)) (or_cases (is_in q us) (is_in q (names h.part.told)) e)))
-            (λ e. ⊎_elim (λ z. or_left (is_in q us) (is_in q (names h.part.told)) (sym (same_in q us) ∙ z)) (λ z. or_right (is_in q us) (is_in q (names h.part.told)) (sym (same_in q (names h.part.told)) ∙ z)) ((laws.tells us q h.part).0.0 (same_in q (names (census.telling us h.part).told) ∙ e)));
+            (λ e. (laws.tells us q h.part).0.1 (or_cases (is_in q us) (is_in q (names h.part.told)) e))
+            (λ e. ⊎_elim (λ z. or_left (is_in q us) (is_in q (names h.part.told)) (z)) (λ z. or_right (is_in q us) (is_in q (names h.part.told)) (z)) ((laws.tells us q h.part).0.0 (e)));
         answered = λ q. ap (λ (xs : List ℕ). is_in q xs) rest.0 ∙ answered_in_part q h.part.told ∙ sym (laws.tells us q h.part).1 ∙ sym (answered_in_part q (census.telling us h.part).told);
         tally = rest.1;
         polled = rest.2;

@@ -1,18 +1,28 @@
 -- What holds of the rounds, whatever is called.
-use Rattle.std.proofs.Common.{◌≡◌, ℕ, zero, suc, ◌-◌, ◌<◌, ◌≤◌, Bool, true, false, not, ◌&&◌, eqb, ltb, leb, ◌⊎◌, List, set, Decides, sym, refl, ap, ◌∙◌, inl, inr, ⊎_elim, arith, set-set}
+use Rattle.std.specs.List.{list_all, range_with_len}
+use Rattle.std.proofs.lemmas.List.{map-id}
+use Rattle.std.proofs.Math.Bool.{and_comm, and-true}
+use Rattle.std.proofs.lemmas.List.FromFn.{map-range_with_len_more}
+use Rattle.std.proofs.lemmas.List.Folds.{list_all-append}
+use Rattle.std.proofs.Common.{[], ◌∷◌, ◌++◌, ◌+◌, zero-add, add-one, ◌≡◌, ℕ, zero, suc, ◌<◌, ◌≤◌, Bool, true, false, not, ◌&&◌, eqb, ltb, leb, ◌⊎◌, List, set, Decides, sym, refl, ap, ◌∙◌, inl, inr, ⊎_elim, arith, set-set}
 use Rattle.std.proofs.lemmas.List.{get_or-set_other}
 use Rattle.std.proofs.lemmas.Bool.{and_from, and_parts, cases_Bool, cases_eq, cond_both, eq-eqb, eqb-true, le-leb, leb-true, not-true, or_cases, true≢false}
 use Rattle.rounds.specs.Laws.{Answered, Still, Laws}
 use Rattle.rounds.specs.Model.{Slot, silent, said, Desk, slot_of, spoke, all_spoke, agrees as agree, all_agree, ready, next, begun, notes, noted, agreed}
 
--- one house less
-pub spoke_less : (n : ℕ) (xs : List Slot) (b : Bool) → 0 < n → b ≡ spoke (slot_of (n - 1) xs) → all_spoke n xs ≡ (b && all_spoke (n - 1) xs)
-spoke_less zero xs b l e = absurd (omega arith)
-spoke_less (suc n) xs b l e = let z : suc n - 1 ≡ n = omega arith in rw (e, z)
-
-pub agree_less : (n : ℕ) (xs ys : List Slot) (b : Bool) → 0 < n → b ≡ agree (slot_of (n - 1) xs) (slot_of (n - 1) ys) → all_agree n xs ys ≡ (b && all_agree (n - 1) xs ys)
-agree_less zero xs ys b l e = absurd (omega arith)
-agree_less (suc n) xs ys b l e = let z : suc n - 1 ≡ n = omega arith in rw (e, z)
+-- what holds of each house below n, asked one after the other
+pub all_below : (p F : ℕ → Bool) → F 0 ≡ true → ((n : ℕ) → F (suc n) ≡ (p n && F n)) → (n : ℕ) → list_all p (range_with_len 0 n) ≡ F n
+all_below p F z s zero = sym z
+all_below p F z s (suc n) =
+    let same = map-id (range_with_len 0 n) in
+    let more : range_with_len 0 (suc n) ≡ range_with_len 0 n ++ n ∷ [] =
+    sym (ap (range_with_len 0) (add-one n)) ∙ sym (map-id (range_with_len 0 (n + 1))) ∙ map-range_with_len_more (λ i. i) 0 n n (zero-add n) ∙ ap (λ xs. xs ++ n ∷ []) same in
+    ap (list_all p) more
+    ∙ list_all-append p (range_with_len 0 n) (n ∷ [])
+    ∙ ap (λ b. b && list_all p (n ∷ [])) (all_below p F z s n)
+    ∙ and_comm (F n) (p n && true)
+    ∙ ap (λ b. b && F n) (and-true (p n))
+    ∙ sym (s n)
 
 -- a second answer of a house to a round changes nothing
 pub noted_twice : (r i : ℕ) (calm : Bool) (t : ℕ) (d : Desk) → noted r i calm t (noted r i calm t d) ≡ noted r i calm t d

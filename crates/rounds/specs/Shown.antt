@@ -13,7 +13,7 @@ abbrev pub slots_of : Answers → List model.Slot
 slots_of a = map slot a.slots
 
 abbrev pub desk_of : Desk → model.Desk
-desk_of d = record { round = d.round.0; now = slots_of d.now; before = slots_of d.before }
+desk_of d = record { round = d.round.0; now = slots_of d.answers; before = slots_of d.before }
 
 -- a round's number, or why there is none
 abbrev pub number_of : Result RoundNumber Refusal → Result ℕ Refusal

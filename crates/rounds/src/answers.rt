@@ -1,66 +1,64 @@
-ghost use Rattle.std.specs.Prelude.{◌≡◌, slice_set};
-ghost use Rattle.rounds.specs.Model.{unanswered, slot_of, all_spoke, all_agree};
+ghost use Rattle.std.specs.Prelude.{◌≡◌, slice_set, Some};
+ghost use Rattle.rounds.specs.Model.{unanswered, slot_of, spoke, all_spoke, agrees, all_agree};
 ghost use Rattle.rounds.specs.Slots.{slot};
 ghost use Rattle.rounds.specs.Shown.{slots_of};
 
 use crate::desk::Answers;
-use crate::slot::Slot;
+use crate::said::Said;
 use wire::House;
 
 impl Answers {
     pub(crate) fn none() -> Answers
         ensures { slots_of result ≡ unanswered }
     {
-        Answers {
-            slots: [Slot::Silent; 16],
-        }
+        Answers { slots: [None; 16] }
     }
 
     // The answer of a house.
-    pub(crate) fn of(&self, house: u8) -> Slot
+    pub(crate) fn of(&self, house: u8) -> Option<Said>
         ensures { slot result ≡ slot_of house (slots_of self.now) }
     {
-        match self.slots.get(house as usize) {
-            Some(answer) => *answer,
-            None => Slot::Silent,
-        }
+        self.slots.get(house as usize).copied().flatten()
     }
 
     // With the answer of one house more.
-    pub(crate) fn with(mut self, house: House, answer: Slot) -> Answers
-        ensures { slots_of result ≡ slice_set (slots_of self) house.0 (slot answer) }
+    pub(crate) fn with(mut self, house: House, answer: Said) -> Answers
+        ensures { slots_of result ≡ slice_set (slots_of self) house.0 (slot (Some answer)) }
     {
+        // a `get_mut` in place of the test gets no proof: what it leaves in the array has no name there
         if house.0 < 16 {
-            self.slots[house.0 as usize] = answer;
+            self.slots[house.0 as usize] = Some(answer);
         }
         self
+    }
+
+    pub(crate) fn has_answered(&self, house: u8) -> bool
+        ensures { result ≡ spoke (slot_of house (slots_of self.now)) }
+    {
+        self.of(house).is_some()
     }
 
     // Whether each of so many houses has answered.
     pub(crate) fn are_all(&self, houses: u8) -> bool
         ensures { result ≡ all_spoke houses (slots_of self.now) }
     {
-        let mut left = houses;
-        while left > 0 {
-            left -= 1;
-            if !self.of(left).has_spoken() {
-                return false;
-            }
-        }
-        true
+        (0..houses).all(|house| self.has_answered(house))
     }
 
-    // Whether each of so many houses was calm in this round and in the one before, with the same tally.
+    // Whether a house was calm in this round and in the one before, with the same tally.
+    fn agrees(&self, before: &Answers, house: u8) -> bool
+        ensures { result ≡ agrees (slot_of house (slots_of self.now)) (slot_of house (slots_of before.now)) }
+    {
+        match (self.of(house), before.of(house)) {
+            (Some(said), Some(earlier)) => said.agrees(earlier),
+            _ => false,
+        }
+    }
+
+    // Whether each of so many houses was.
     pub(crate) fn agree(&self, before: &Answers, houses: u8) -> bool
         ensures { result ≡ all_agree houses (slots_of self.now) (slots_of before.now) }
     {
-        let mut left = houses;
-        while left > 0 {
-            left -= 1;
-            if !self.of(left).agrees(before.of(left)) {
-                return false;
-            }
-        }
-        true
+        (0..houses).all(|house| self.agrees(before, house))
     }
 }

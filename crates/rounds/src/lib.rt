@@ -5,6 +5,6 @@
 mod answers;
 mod desk;
 mod rounds;
-mod slot;
+mod said;
 
 pub use desk::{Desk, Noted};

@@ -5,7 +5,7 @@ ghost use Rattle.rounds.specs.Model.{idle, ready, agreed, beginning, begun, note
 ghost use Rattle.rounds.specs.Shown.{desk_of, number_of, verdict};
 
 use crate::desk::{Answers, Desk, Noted};
-use crate::slot::Slot;
+use crate::said::Said;
 use census::Mood;
 use wire::{House, Refusal, RoundNumber, Tally};
 
@@ -15,24 +15,18 @@ impl Desk {
         ensures value { desk_of result ≡ idle }
         ensures lawful { Laws }
     {
-        Desk::idle()
-    }
-
-    fn idle() -> Desk
-        ensures { desk_of result ≡ idle }
-    {
         Desk {
             round: RoundNumber(0),
-            now: Answers::none(),
+            answers: Answers::none(),
             before: Answers::none(),
         }
     }
 
     // Whether the next round may begin: there is none, or all have answered it.
     fn is_ready(&self, houses: u8) -> bool
-        ensures { result ≡ ready houses (desk_of self.entry.now) }
+        ensures { result ≡ ready houses (desk_of self.now) }
     {
-        self.round.0 == 0 || self.now.are_all(houses)
+        self.round == RoundNumber(0) || self.answers.are_all(houses)
     }
 
     // The next round, or the present one again if not all have answered it, since its message may be lost.
@@ -43,35 +37,35 @@ impl Desk {
         if !self.is_ready(houses) {
             return (self, Ok(self.round));
         }
-        if self.round.0 == 4294967295 {
+        let Some(next) = self.round.0.checked_add(1) else {
             return (self, Err(Refusal::OutOfNumbers));
-        }
-        let round = RoundNumber(self.round.0 + 1);
+        };
+        let round = RoundNumber(next);
         let desk = Desk {
             round,
-            now: Answers::none(),
-            before: self.now,
+            answers: Answers::none(),
+            before: self.answers,
         };
         (desk, Ok(round))
     }
 
     // Whether an answer to a round is the first of its house to the present one.
     fn is_new(&self, number: RoundNumber, from: House) -> bool
-        ensures { result ≡ notes number.0 from.0 (desk_of self.entry.now) }
+        ensures { result ≡ notes number.0 from.0 (desk_of self.now) }
     {
-        number.0 >= 1 && number.0 == self.round.0 && !self.now.of(from.0).has_spoken()
+        number >= RoundNumber(1) && number == self.round && !self.answers.has_answered(from.0)
     }
 
     // Whether two rounds in a row agree. One does not show that nothing was marked while the others were asked.
     fn is_agreed(&self, houses: u8) -> bool
-        ensures { result ≡ agreed houses (desk_of self.entry.now) }
+        ensures { result ≡ agreed houses (desk_of self.now) }
     {
-        self.round.0 >= 2 && self.now.agree(&self.before, houses)
+        self.round >= RoundNumber(2) && self.answers.agree(&self.before, houses)
     }
 
     // An answer to a round came from a house.
     pub fn note(
-        self,
+        mut self,
         houses: u8,
         number: RoundNumber,
         from: House,
@@ -84,14 +78,10 @@ impl Desk {
         if !self.is_new(number, from) {
             return (self, Noted::Ignored);
         }
-        let desk = Desk {
-            round: self.round,
-            now: self.now.with(from, Slot::Said(mood, tally)),
-            before: self.before,
-        };
-        if desk.is_agreed(houses) {
-            return (desk, Noted::Completes);
+        self.answers = self.answers.with(from, Said { mood, tally });
+        if self.is_agreed(houses) {
+            return (self, Noted::Completes);
         }
-        (desk, Noted::Kept)
+        (self, Noted::Kept)
     }
 }

@@ -17,7 +17,6 @@ use Rattle.objects.specs.Calls.{make_answer, made_new, link_answer, linked_to, u
 use Rattle.lines.specs.Listed.{Listed, line, fits, belongs, entered, marked, joined, heard_of, swept, objects_listed, objects_in}
 use Rattle.lines.specs.Stamping.{stamp, given_to, seen_from, heard_from, with_given, with_seen, next_for}
 use Rattle.lines.specs.declared.stamps.Stamps.{Stamps}
-use Rattle.census.specs.Lists as told
 use Rattle.census.specs.Model.{Part, asks, stirring, hearing, settled, with_told, telling, due_of, polling, replied, says_calm}
 use Rattle.rounds.specs.Model.{Desk, ready, beginning, begun, noted, completes}
 use Rattle.rules.specs.Executed.{collected, references_of}
@@ -198,10 +197,10 @@ module _ (h : House) (s : Sound h) where
       let few = references_fit j h.heap s.heap in
       ((s.heap.inside, l, s.stamps.seen j, refl, omega arith, length_names os, word_rises (houses h) j os (refers h.heap j).rises (references_named j h.heap s.heap)), names_bytes os)
 
-  tellings_fine : (ds : List ℕ) → ((o : ℕ) → told.is_in o ds ≡ true → Named (houses h) (name o)) → AllByRecursion (Fine (houses h)) (map (telling_of h) ds)
+  tellings_fine : (ds : List ℕ) → ((o : ℕ) → is_in o ds ≡ true → Named (houses h) (name o)) → AllByRecursion (Fine (houses h)) (map (telling_of h) ds)
   tellings_fine [] f = tt
   tellings_fine (o ∷ ds) f =
-      (((s.part.census, f o (or_left (eqb o o) (told.is_in o ds) (eq-eqb o o refl)), s.heap.inside, refl), no_bytes), tellings_fine ds (λ q e. f q (or_right (eqb o q) (told.is_in q ds) e)))
+      (((s.part.census, f o (or_left (eqb o o) (is_in o ds) (eq-eqb o o refl)), s.heap.inside, refl), no_bytes), tellings_fine ds (λ q e. f q (or_right (eqb o q) (is_in q ds) e)))
 
   good_stamped : (r : Result Stamp Refusal) (o j : ℕ) → next_for j h.stamps ≡ r → Named (houses h) (name o) → fits o j h.list 2048 ≡ true → Good (houses h) (stamped r o j h)
   good_stamped (Err e) o j q w room = good_refused (houses h) e h s

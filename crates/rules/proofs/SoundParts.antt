@@ -1,13 +1,12 @@
 -- Stamps, the part in a census and the rounds stay within their limits.
-use Rattle.std.proofs.Common.{◌≡◌, ℕ, zero, suc, ◌+◌, ◌^◌, ◌<◌, max, Bool, true, false, ◌&&◌, ◌||◌, eqb, ltb, ◌⊎◌, List, [], ◌∷◌, get_or, set, replicate, sym, refl, ap, ◌∙◌, ⊎_elim, arith}
+use Rattle.std.proofs.Common.{◌≡◌, ℕ, zero, suc, ◌+◌, ◌^◌, ◌<◌, max, Bool, true, false, ◌&&◌, eqb, ltb, ◌⊎◌, List, [], ◌∷◌, get_or, set, replicate, sym, refl, ap, ◌∙◌, ⊎_elim, arith}
 use Rattle.std.proofs.lemmas.List.{length-set}
 use Rattle.std.proofs.lemmas.Bool.{both_ways, and_parts, cond_both, ltb-true}
 use Rattle.wire.specs.Names.{home, name}
 use Rattle.wire.specs.Laws.{Named}
-use Rattle.tables.specs.Model.{is_in}
+use Rattle.tables.specs.Model.{is_in, rising}
 use Rattle.lines.specs.Stamping.{unstamped, heard_from, with_given, with_seen, with_heard}
 use Rattle.lines.specs.declared.stamps.Stamps.{Stamps}
-use Rattle.census.specs.Lists as told
 use Rattle.census.specs.Model.{Part, fresh, with_told, settled, counting, stirring, hearing, telling, polling, replied, due_of}
 use Rattle.census.specs.Laws.{IsTold}
 use Rattle.census.proofs.Settling.{names_settled}
@@ -79,11 +78,6 @@ stamps_heard st w j s l =
     (λ _. stamps_heard_at st w j (max (heard_from st j) s) (greater_under (heard_from st j) s (2 ^ 32) (w.heard j) l))
     (λ _. w)
 
--- the same word for lists of names in two places
-same_in : (o : ℕ) (xs : List ℕ) → told.is_in o xs ≡ is_in o xs
-same_in o [] = refl
-same_in o (x ∷ xs) = ap (λ b. eqb x o || b) (same_in o xs)
-
 pub part_fresh : (here n c : ℕ) → c < 2 ^ 32 → SoundPart here n (fresh c)
 part_fresh here n c l = record { census = l; order = refl; named = λ o e. absurd (both_ways false refl e); far = λ o e. absurd (both_ways false refl e) }
 
@@ -101,12 +95,12 @@ module _ (here n : ℕ) (p : Part) (w : SoundPart here n p) where
   part_heard c o =
       let ns = names_settled o p.told in
       cond_both (eqb c p.census) (with_told (settled o p.told) p) p (SoundPart here n)
-      (λ _. record { census = w.census; order = ap told.rising ns ∙ w.order; named = λ q e. w.named q (ap (told.is_in q) (sym ns) ∙ e); far = λ q e. w.far q (ap (told.is_in q) (sym ns) ∙ e) })
+      (λ _. record { census = w.census; order = ap rising ns ∙ w.order; named = λ q e. w.named q (ap (is_in q) (sym ns) ∙ e); far = λ q e. w.far q (ap (is_in q) (sym ns) ∙ e) })
       (λ _. w)
 
   module _ (us : List ℕ) (f : (o : ℕ) → is_in o us ≡ true → (home o ≡ here → ⊥) × Named n (name o)) where
-    use_or_told : (o : ℕ) → (told.is_in o us ≡ true) ⊎ IsTold o p → (home o ≡ here → ⊥) × Named n (name o)
-    use_or_told o q = ⊎_elim (λ u. f o (sym (same_in o us) ∙ u)) (λ u. (w.far o u, w.named o u)) q
+    use_or_told : (o : ℕ) → (is_in o us ≡ true) ⊎ IsTold o p → (home o ≡ here → ⊥) × Named n (name o)
+    use_or_told o q = ⊎_elim (λ u. f o u) (λ u. (w.far o u, w.named o u)) q
 
     pub part_tells : SoundPart here n (telling us p)
     part_tells = record {
@@ -117,7 +111,7 @@ module _ (here n : ℕ) (p : Part) (w : SoundPart here n p) where
     }
 
     -- what is sent then
-    pub due_named : (o : ℕ) → told.is_in o (due_of us p) ≡ true → Named n (name o)
+    pub due_named : (o : ℕ) → is_in o (due_of us p) ≡ true → Named n (name o)
     due_named o e = (use_or_told o ((laws.due us p w.order).only o e).0).1
 
 pub desk_idle : SoundDesk idle

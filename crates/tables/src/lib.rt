@@ -14,5 +14,5 @@ pub use closing::close_up;
 pub use gathering::{gather, gather_fields};
 pub use marking::mark;
 pub use object::Object;
-pub use place::{Named, enter, find, first};
+pub use place::{Named, enter, find, first, place as place_of};
 pub use which::Which;

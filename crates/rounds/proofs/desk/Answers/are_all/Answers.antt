@@ -1,15 +1,13 @@
-use Rattle.std.proofs.Common.{sym, ap, ◌∙◌, arith}
-use Rattle.rounds.specs.Model.{spoke}
+use Rattle.std.proofs.Common.{◌∙◌, refl, rules, tests, arith}
+use Rattle.std.proofs.lemmas.Iterator.{YieldsList-from_range}
+use Rattle.std.proofs.lemmas.Iterator.Search.{all_from_yields_List}
+use Rattle.rounds.specs.Model.{slot_of, spoke, all_spoke}
 use Rattle.rounds.specs.Shown.{slots_of}
-use Rattle.rounds.proofs.Laws.{spoke_less}
+use Rattle.rounds.proofs.Laws.{all_below}
 use Rattle.rounds.proofs.desk.Answers.are_all.Goals as goal
 
-pub returns-then-not-has_spoken : goal.returns-then-not-has_spoken
-returns-then-not-has_spoken c =
+pub returns : goal.returns
+returns c =
     let xs = slots_of c.args.self.now in
-    sym (c.loop-left.invariant ∙ spoke_less c.loop-left.left xs _ (omega arith) (c.if-not-has_spoken.ensures ∙ ap spoke c.of.ensures))
-
-pub loop-left-preserved : goal.loop-left-preserved
-loop-left-preserved c =
-    let xs = slots_of c.args.self.now in
-    c.loop-left.invariant ∙ spoke_less c.loop-left.left xs _ (omega arith) (c.if-not-has_spoken.ensures ∙ ap spoke c.of.ensures)
+    all_from_yields_List (λ i. spoke (slot_of i xs)) _ _ _ c.all.ensures.ran (YieldsList-from_range 0 c.args.houses c.args.houses refl (omega arith)) (λ x b q k. search (rules, tests))
+    ∙ all_below _ (λ n. all_spoke n xs) refl (λ n. refl) c.args.houses
