@@ -1,17 +1,26 @@
-use Rattle.std.proofs.Common.{[], sym, ap, ◌∙◌}
+use Rattle.std.proofs.Common.{[], ◌-◌, take, vec_items, sym, ap, ◌∙◌}
+use Rattle.tables.proofs.Places.{names_in_place}
+use Rattle.tables.specs.Model.{rising}
+use Rattle.tables.specs.Shown.{numbers}
+use Rattle.objects.specs.Calls.{heap_of}
 use Rattle.lines.specs.Listed.{objects_listed}
 use Rattle.lines.specs.Lists.{lines}
-use Rattle.objects.specs.Calls.{heap_of}
 use Rattle.node.specs.Executed.{collected}
 use Rattle.node.specs.House.{with_heap}
 use Rattle.node.specs.Shown.{house_of}
 use Rattle.node.specs.Step.{sends}
 use Rattle.node.proofs.Bytes.{front}
+use Rattle.node.proofs.Reached.{collects}
 use Rattle.node.proofs.head.Head.collect.Goals as goal
 
-pub returns : goal.returns
-returns c =
-    let h = house_of c.args.self c.args.objects.now c.args.list.now in
-    let listed = objects_listed (lines c.args.list.now) in
+pub returns-clause-step : goal.returns-clause-step
+returns-clause-step c =
+    let h = house_of c.args.self c.args.tables.now in
+    let t = c.args.tables.now.objects.now in
+    let into = c.objects-count.new.into in
+    let count = c.objects-count.result in
+    let from = numbers (take (count - 0) into) in
+    let here = collects (heap_of t) from (ap rising (names_in_place (vec_items t.objects)) ∙ t.ordered) in
     ap (λ x. sends [] (with_heap x h))
-    (sym (c.collect_from.ensures ∙ ap (λ l. collected l (heap_of c.args.objects.now)) (front c.objects-count.new.into c.objects-count.result listed c.objects-count.ensures.after)))
+    (ap (λ l. collected l (heap_of t)) (sym (front into count (objects_listed (lines c.args.tables.now.list)) c.objects-count.ensures.after))
+    ∙ c.collect.ensures.lasting.sole (collected from (heap_of t)) here)
