@@ -47,9 +47,14 @@ abbrev pub quieted : Result (Unit {0}) Refusal → Answer
 quieted (Ok u) = Ok Nothing
 quieted (Err e) = Err (Refused e)
 
--- a step of a house: the head and the answer that it hands back, with the tables as they are then
-abbrev pub Steps : Head × Answer → Event → House → Tables → Type 0
-Steps r e before t = Gives r.1 (step before e) before (house_of r.0 t)
+-- What a method of head h did with tables t: the head and the answer that it hands back, with the tables u as they are then, are the outcome of the rule.
+pub record Does (rule : House → Outcome) (h : Head) (t : Tables) (r : Head × Answer) (u : Tables) : Type 0 where
+  pub step : Gives r.1 (rule (house_of h t)) (house_of h t) (house_of r.0 u)
+  pub lent : SameLoan t u
+
+-- the rule is the step at an event
+abbrev pub Steps : Event → Head → Tables → Head × Answer → Tables → Type 0
+Steps e = Does (λ h. step h e)
 
 -- the event that a call is
 abbrev pub event_of : Call → Event

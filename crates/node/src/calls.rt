@@ -1,6 +1,6 @@
 ghost use Rattle.std.specs.Prelude.{◌≡◌};
 ghost use Rattle.node.specs.Step.{make, link, unlink, load, drop, ask, round};
-ghost use Rattle.node.specs.Shown.{house_of, SameLoan, Steps, quieted};
+ghost use Rattle.node.specs.Shown.{Steps, quieted};
 
 use crate::head::Head;
 use crate::lent::Tables;
@@ -17,46 +17,38 @@ pub(crate) fn quiet(res: Result<(), Refusal>) -> Answer
 
 impl Head {
     pub fn make(self, tables: &mut Tables, number: u64) -> (Head, Answer)
-        ensures step { Steps result (make number) (house_of self tables.old) tables.new }
-        ensures lent { SameLoan tables.old tables.new }
+        ensures { Steps (make number) self tables.old result tables.new }
     {
-        match tables.objects.make(number) {
-            Ok(_) => (self, Ok(Sent::Nothing)),
-            Err(refusal) => (self, Err(refusal.into())),
-        }
+        (self, quiet(tables.objects.make(number).map(|_| ())))
     }
 
     pub fn link(self, tables: &mut Tables, object: Name, target: Name) -> (Head, Answer)
-        ensures step { Steps result (link object.0 target.0) (house_of self tables.old) tables.new }
-        ensures lent { SameLoan tables.old tables.new }
+        ensures { Steps (link object.0 target.0) self tables.old result tables.new }
     {
         (self, quiet(tables.objects.link(object, target)))
     }
 
     pub fn unlink(self, tables: &mut Tables, object: Name, target: Name) -> (Head, Answer)
-        ensures step { Steps result (unlink object.0 target.0) (house_of self tables.old) tables.new }
-        ensures lent { SameLoan tables.old tables.new }
+        ensures { Steps (unlink object.0 target.0) self tables.old result tables.new }
     {
         (self, quiet(tables.objects.unlink(object, target)))
     }
 
     pub fn load(self, tables: &mut Tables, object: Name, target: Name) -> (Head, Answer)
-        ensures step { Steps result (load object.0 target.0) (house_of self tables.old) tables.new }
-        ensures lent { SameLoan tables.old tables.new }
+        ensures { Steps (load object.0 target.0) self tables.old result tables.new }
     {
         (self, quiet(tables.objects.load(object, target)))
     }
 
     pub fn release(self, tables: &mut Tables, object: Name) -> (Head, Answer)
-        ensures step { Steps result (drop object.0) (house_of self tables.old) tables.new }
-        ensures lent { SameLoan tables.old tables.new }
+        ensures { Steps (drop object.0) self tables.old result tables.new }
     {
         (self, quiet(tables.objects.release(object)))
     }
 
     // A root is to be handed to house `to`: its home is asked to.
     pub fn ask(self, tables: &Tables, object: Name, to: House) -> (Head, Answer)
-        ensures { Steps result (ask object.0 to.0) (house_of self tables.now) tables.now }
+        ensures { Steps (ask object.0 to.0) self tables.now result tables.now }
     {
         let houses = tables.objects.houses();
         if !object.is_well_formed(houses) || to.0 >= houses {
@@ -70,7 +62,7 @@ impl Head {
     }
 
     pub fn round(self, tables: &Tables) -> (Head, Answer)
-        ensures { Steps result round (house_of self tables.now) tables.now }
+        ensures { Steps round self tables.now result tables.now }
     {
         (self, Err(Refusal::WrongHouse.into()))
     }

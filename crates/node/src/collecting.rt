@@ -3,7 +3,7 @@ ghost use Rattle.tables.specs.Shown.{numbers};
 ghost use Rattle.objects.specs.Calls.{heap_of};
 ghost use Rattle.node.specs.Executed.{names_in_use};
 ghost use Rattle.node.specs.Step.{used, caught_up, polled, worded, bytes_of, collect, word, join, tell};
-ghost use Rattle.node.specs.Shown.{house_of, Gives, SameLoan, Steps};
+ghost use Rattle.node.specs.Shown.{house_of, Does, Steps};
 
 use crate::head::Head;
 use crate::lent::Tables;
@@ -15,8 +15,7 @@ use wire::{Census, House, Message, Name, Part, Refusal, RoundNumber};
 impl Head {
     // The objects that are met neither from the roots nor from the list are freed.
     pub fn collect(self, tables: &mut Tables) -> (Head, Answer)
-        ensures step { Steps result collect (house_of self tables.old) tables.new }
-        ensures lent { SameLoan tables.old tables.new }
+        ensures { Steps collect self tables.old result tables.new }
     {
         let mut names = [Name(0); 2048];
         let count = tables.list.objects(&mut names);
@@ -26,8 +25,7 @@ impl Head {
 
     // A census of this number is joined.
     pub fn join(self, tables: &mut Tables, census: u64) -> (Head, Answer)
-        ensures step { Steps result (join census) (house_of self tables.old) tables.new }
-        ensures lent { SameLoan tables.old tables.new }
+        ensures { Steps (join census) self tables.old result tables.new }
     {
         let census = match u32::try_from(census) {
             Ok(number) if Census(number) > self.standing.census() => Census(number),
@@ -55,7 +53,7 @@ impl Head {
 
     // All that is in use of other houses is told to them, until they answer.
     pub fn tell(mut self, tables: &Tables) -> (Head, Answer)
-        ensures { Steps result tell (house_of self tables.now) tables.now }
+        ensures { Steps tell self tables.now result tables.now }
     {
         let census = self.standing.census();
         let Ok(in_use) = self.in_use(tables, census) else {
@@ -76,8 +74,7 @@ impl Head {
         census: Census,
         number: RoundNumber,
     ) -> (Head, Answer)
-        ensures step { Gives result.1 (polled census.0 number.0 (house_of self tables.old)) (house_of self tables.old) (house_of result.0 tables.new) }
-        ensures lent { SameLoan tables.old tables.new }
+        ensures { Does (polled census.0 number.0) self tables.old result tables.new }
     {
         if census < self.standing.census() {
             return (self, Err(Refusal::OtherCensus.into()));
@@ -90,22 +87,19 @@ impl Head {
             .standing
             .reply(tables.list.home, census, number, &in_use);
         head.standing = standing;
-        match answer {
-            Ok(message) => (head, Ok(Sent::One(message))),
-            Err(refusal) => (head, Err(refusal.into())),
-        }
+        (head, answer.map(Sent::One).map_err(Fault::from))
     }
 
     // House `to` is told which of its objects this house has, and how far it has taken what was handed to it.
     pub fn word(self, tables: &Tables, to: House) -> (Head, Answer)
-        ensures { Steps result (word to.0) (house_of self tables.now) tables.now }
+        ensures { Steps (word to.0) self tables.now result tables.now }
     {
         let answer = self.word_for(tables, to);
         (self, answer)
     }
 
     fn word_for(&self, tables: &Tables, to: House) -> Answer
-        ensures { Gives result (worded to.0 (house_of self.now tables.now)) (house_of self.now tables.now) (house_of self.now tables.now) }
+        ensures { Does (worded to.0) self.now tables.now (self.now, result) tables.now }
     {
         let from = tables.objects.home();
         if to.0 >= tables.objects.houses() {

@@ -3,7 +3,7 @@ ghost use Rattle.lines.specs.Stamping.{unstamped};
 ghost use Rattle.census.specs.Model.{fresh};
 ghost use Rattle.census.specs.Standings.{part_of};
 ghost use Rattle.node.specs.Laws.{Lawful};
-ghost use Rattle.node.specs.Shown.{house_of, SameLoan, Steps, event_of};
+ghost use Rattle.node.specs.Shown.{Steps, event_of};
 
 use crate::head::Head;
 use crate::lent::Tables;
@@ -36,8 +36,7 @@ impl Head {
 
     // A call of the house's programs, or of its collector.
     pub fn call(self, tables: &mut Tables, call: Call) -> (Head, Answer)
-        ensures step { Steps result (event_of call) (house_of self tables.old) tables.new }
-        ensures lent { SameLoan tables.old tables.new }
+        ensures { Steps (event_of call) self tables.old result tables.new }
     {
         match call {
             Call::Make { number } => self.make(tables, number),

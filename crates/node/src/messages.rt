@@ -7,7 +7,7 @@ ghost use Rattle.lines.specs.Stamping.{heard_from};
 ghost use Rattle.census.specs.Model.{fresh};
 ghost use Rattle.census.specs.Standings.{part_of};
 ghost use Rattle.node.specs.Step.{authorised, caught_up, gives, handed, takes, hears, told, settles, sweeps};
-ghost use Rattle.node.specs.Shown.{house_of, Gives, SameLoan};
+ghost use Rattle.node.specs.Shown.{house_of, Does, SameLoan};
 
 use crate::calls::quiet;
 use crate::head::Head;
@@ -27,8 +27,7 @@ impl Head {
 
     // The object is handed to another house.
     fn give(&mut self, tables: &mut Tables, object: Name, to: House) -> Answer
-        ensures step { Gives result (gives object.0 to.0 (house_of self.old tables.old)) (house_of self.old tables.old) (house_of self.new tables.new) }
-        ensures lent { SameLoan tables.old tables.new }
+        ensures { Does (gives object.0 to.0) self.old tables.old (self.new, result) tables.new }
     {
         if !tables.list.has_room(object, to) {
             return Err(Refusal::NoRoom.into());
@@ -49,8 +48,7 @@ impl Head {
         by: House,
         to: House,
     ) -> (Head, Answer)
-        ensures step { Gives result.1 (handed object.0 by.0 to.0 (house_of self tables.old)) (house_of self tables.old) (house_of result.0 tables.new) }
-        ensures lent { SameLoan tables.old tables.new }
+        ensures { Does (handed object.0 by.0 to.0) self tables.old result tables.new }
     {
         if object.home() != tables.list.home {
             return (self, Err(Refusal::Misdelivered.into()));
@@ -76,8 +74,7 @@ impl Head {
         to: House,
         stamp: Stamp,
     ) -> (Head, Answer)
-        ensures step { Gives result.1 (takes object.0 to.0 stamp.0 (house_of self tables.old)) (house_of self tables.old) (house_of result.0 tables.new) }
-        ensures lent { SameLoan tables.old tables.new }
+        ensures { Does (takes object.0 to.0 stamp.0) self tables.old result tables.new }
     {
         let from = object.home();
         if to != tables.list.home || from == tables.list.home {
@@ -104,8 +101,7 @@ impl Head {
         part: &[u8],
     ) -> (Head, Answer)
         requires { rising to.0 15 (numbers part.now) ≡ true }
-        ensures step { Gives result.1 (hears from.0 to.0 stamp.0 (numbers part.now) (house_of self tables.old)) (house_of self tables.old) (house_of result.0 tables.new) }
-        ensures lent { SameLoan tables.old tables.new }
+        ensures { Does (hears from.0 to.0 stamp.0 (numbers part.now)) self tables.old result tables.new }
     {
         if to != tables.list.home {
             return (self, Err(Refusal::Misdelivered.into()));
@@ -136,8 +132,7 @@ impl Head {
         object: Name,
         from: House,
     ) -> (Head, Answer)
-        ensures step { Gives result.1 (told census.0 object.0 from.0 (house_of self tables.old)) (house_of self tables.old) (house_of result.0 tables.new) }
-        ensures lent { SameLoan tables.old tables.new }
+        ensures { Does (told census.0 object.0 from.0) self tables.old result tables.new }
     {
         if object.home() != tables.list.home {
             return (self, Err(Refusal::Misdelivered.into()));
@@ -146,12 +141,9 @@ impl Head {
             return (self, Err(Refusal::OtherCensus.into()));
         }
         let mut head = self.catch_up(tables, census);
-        let line = if tables.list.mark(object, from, census) {
-            Marked::New
-        } else {
-            Marked::Again
-        };
-        head.standing = head.standing.counted(line);
+        if tables.list.mark(object, from, census) {
+            head.standing = head.standing.counted(Marked::New);
+        }
         let answer = Message::Answer {
             census,
             object,
@@ -168,7 +160,7 @@ impl Head {
         object: Name,
         from: House,
     ) -> (Head, Answer)
-        ensures { Gives result.1 (settles census.0 object.0 from.0 (house_of self tables.now)) (house_of self tables.now) (house_of result.0 tables.now) }
+        ensures { Does (settles census.0 object.0 from.0) self tables.now result tables.now }
     {
         if from != tables.list.home {
             return (self, Err(Refusal::Misdelivered.into()));
@@ -180,8 +172,7 @@ impl Head {
 
     // The news that a census is complete.
     pub(crate) fn sweep(self, tables: &mut Tables, census: Census) -> (Head, Answer)
-        ensures step { Gives result.1 (sweeps census.0 (house_of self tables.old)) (house_of self tables.old) (house_of result.0 tables.new) }
-        ensures lent { SameLoan tables.old tables.new }
+        ensures { Does (sweeps census.0) self tables.old result tables.new }
     {
         if census != self.standing.census() {
             return (self, Err(Refusal::OtherCensus.into()));

@@ -1,7 +1,7 @@
 ghost use Rattle.std.specs.Prelude.{◌≡◌};
 ghost use Rattle.wire.specs.Laws.{Rises};
 ghost use Rattle.node.specs.Step.{receives, came};
-ghost use Rattle.node.specs.Shown.{house_of, Gives, SameLoan, Steps};
+ghost use Rattle.node.specs.Shown.{Does, Steps};
 
 use crate::head::Head;
 use crate::lent::Tables;
@@ -12,8 +12,7 @@ impl Head {
     // A message that was read, with its objects' part.
     fn receive(self, tables: &mut Tables, message: Message, part: &[u8]) -> (Head, Answer)
         requires { Rises message part.now }
-        ensures step { Gives result.1 (receives message part.now (house_of self tables.old)) (house_of self tables.old) (house_of result.0 tables.new) }
-        ensures lent { SameLoan tables.old tables.new }
+        ensures { Does (receives message part.now) self tables.old result tables.new }
     {
         match message {
             Message::Ask { object, by, to } => self.hand(tables, object, by, to),
@@ -42,8 +41,7 @@ impl Head {
 
     // These bytes came, whatever they are.
     pub fn got(self, tables: &mut Tables, bytes: &[u8]) -> (Head, Answer)
-        ensures step { Steps result (came bytes.now) (house_of self tables.old) tables.new }
-        ensures lent { SameLoan tables.old tables.new }
+        ensures { Steps (came bytes.now) self tables.old result tables.new }
     {
         match wire::read(bytes, tables.list.houses) {
             Ok(read) => self.receive(tables, read.message, read.objects),

@@ -1,4 +1,4 @@
-use Rattle.std.proofs.Common.{[], ◌-◌, take, vec_items, sym, ap, ◌∙◌}
+use Rattle.std.proofs.Common.{rules, [], ◌-◌, take, vec_items, sym, ap, ◌∙◌}
 use Rattle.tables.proofs.Places.{names_in_place}
 use Rattle.tables.specs.Model.{rising}
 use Rattle.tables.specs.Shown.{numbers}
@@ -13,14 +13,18 @@ use Rattle.node.proofs.Bytes.{front}
 use Rattle.node.proofs.Reached.{collects}
 use Rattle.node.proofs.head.Head.collect.Goals as goal
 
-pub returns-clause-step : goal.returns-clause-step
-returns-clause-step c =
+pub returns : goal.returns
+returns c =
     let h = house_of c.args.self c.args.tables.now in
     let t = c.args.tables.now.objects.now in
     let into = c.objects-count.new.into in
     let count = c.objects-count.result in
     let from = numbers (take (count - 0) into) in
     let here = collects (heap_of t) from (ap rising (names_in_place (vec_items t.objects)) ∙ t.ordered) in
-    ap (λ x. sends [] (with_heap x h))
-    (ap (λ l. collected l (heap_of t)) (sym (front into count (objects_listed (lines c.args.tables.now.list)) c.objects-count.ensures.after))
-    ∙ c.collect.ensures.lasting.sole (collected from (heap_of t)) here)
+    record {
+      step =
+          ap (λ x. sends [] (with_heap x h))
+          (ap (λ l. collected l (heap_of t)) (sym (front into count (objects_listed (lines c.args.tables.now.list)) c.objects-count.ensures.after))
+          ∙ c.collect.ensures.lasting.sole (collected from (heap_of t)) here);
+      lent = search rules;
+    }

@@ -8,7 +8,7 @@ use Rattle.node.specs.Executed.{references_of}
 use Rattle.node.specs.Shown.{house_of}
 use Rattle.node.specs.Step.{bytes_of}
 use Rattle.node.proofs.Bytes.{numbers_long}
-use Rattle.node.proofs.Polls.{word_step}
+use Rattle.node.proofs.Words.{word_step}
 use Rattle.node.proofs.Reached.{refers}
 use Rattle.node.proofs.head.Head.word_for.Goals as goal
 
@@ -23,9 +23,8 @@ returns c =
     let size = c.in-Ok.ensures in
     let long = c.in_ok-names.names.ok.0 in
     let count : c.in-Ok.count ≡ length (references_of j t) = size.1 ∙ c.len.ensures ∙ long ∙ sym (numbers_long (vec_items c.in_ok-names.names)) ∙ ap length refs in
-    word_step (house_of c.args.self.now c.args.tables.now) j c.home-from.result c.args.to c.seen_from.result c.in-Ok.count (vec_items c.in_ok-bytes.bytes) there other
-    (ap house c.home-from.ensures)
-    refl
-    c.seen_from.ensures
-    count
-    bytes
+    record {
+      step =
+          word_step (house_of c.args.self.now c.args.tables.now) j c.home-from.result c.args.to c.seen_from.result c.in-Ok.count (vec_items c.in_ok-bytes.bytes) there other (ap house c.home-from.ensures) refl c.seen_from.ensures count bytes;
+      lent = search rules;
+    }

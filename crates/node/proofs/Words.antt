@@ -1,4 +1,4 @@
--- Steps by the parts that the code has.
+-- A word by its parts.
 use Rattle.std.proofs.Common.{◌≡◌, ℕ, Bool, true, false, cond, eqb, ltb, leb, List, [], ◌∷◌, length, Ok, sym, ap, ◌∙◌}
 use Rattle.wire.specs.declared.message.Message.{Message}
 use Rattle.wire.specs.declared.names.House as wire
@@ -13,21 +13,6 @@ use Rattle.wire.specs.declared.message.Message.TheVariants.{Word}
 use Rattle.node.specs.Executed.{references_of}
 use Rattle.node.specs.House.{House, self, houses, census, with_part}
 use Rattle.node.specs.Step.{letter, used, caught_up, in_census, replies_to, polled, worded, bytes_of}
-
--- what catching up makes of a house, by its parts
-pub caught : (b : Bool) (c : ℕ) (h : House) (l : List Listed) (st : Stamps) (p : Part) → l ≡ cond b (joined c (heard_from h.stamps) h.list) h.list → st ≡ h.stamps → p ≡ cond b (fresh c) h.part →
-    record { heap = h.heap; list = l; stamps = st; part = p } ≡ cond b (in_census c h) h
-caught true c h l st p e f g = rw (e, f, g)
-caught false c h l st p e f g = rw (e, f, g)
-
-pub poll_step :
-    (c r : ℕ) (h g : House) (m : Message) (from : wire.House) (us : List ℕ) (p : Part) → ltb c (census h) ≡ false → g ≡ caught_up c h → us ≡ used (caught_up c h) → from ≡ house (self g) →
-    replying from c r us g.part ≡ Ok m → p ≡ replied c r g.part → polled c r h ≡ record { answer = Ok (letter m ∷ []); house = with_part p g }
-poll_step c r h g m from us p e0 eg eu ef er ep =
-    let u : us ≡ used g = eu ∙ ap used (sym eg) in
-    let q : replying (house (self g)) c r (used g) g.part ≡ Ok m = rw (← ef, ← u) er in
-    let a : replies_to c r g ≡ record { answer = Ok (letter m ∷ []); house = with_part p g } = rw (q, ep) in
-    rw e0 (ap (replies_to c r) (sym eg) ∙ a)
 
 pub word_step :
     (h : House) (j : ℕ) (from to : wire.House) (st : Stamp) (k : ℕ) (bs : List ℕ) → leb (houses h) j ≡ false → eqb j (self h) ≡ false → from ≡ house (self h) → to ≡ house j → st ≡ stamp (seen_from h.stamps j) →
