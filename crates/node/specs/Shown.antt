@@ -19,12 +19,13 @@ use Rattle.wire.specs.declared.call.Call.TheVariants as call
 use Rattle.node.specs.Step.{Letter, Outcome, letter, Event, make, link, unlink, load, drop, ask, collect, word, join, tell, round, step}
 
 abbrev pub house_of : Head → Tables → House
-house_of h t = record { heap = heap_of t.objects.now; list = lines t.list; stamps = h.stamps; part = part_of h.standing }
+house_of h t = record { heap = heap_of t.objects.now; list = lines t.list.now; stamps = h.stamps; part = part_of h.standing }
 
 -- u lies in the memory that t lies in, and is of the same house
 pub record SameLoan (t u : Tables) : Type 0 where
   pub objects : u.objects.ghost_name ≡ t.objects.ghost_name
-  pub list : Lent t.list u.list
+  pub list : u.list.ghost_name ≡ t.list.ghost_name
+  pub columns : Lent t.list.now u.list.now
 
 abbrev pub letters : Sent → List Letter
 letters Nothing = []

@@ -5,8 +5,8 @@ use objects::Objects;
 
 // What is lent to a house's head for a step: the house's objects and its list.
 #[derive(Drop)]
-pub struct Tables<'a, 'b> {
+pub struct Tables<'a, 'b, 'c> {
     pub objects: &'a mut Objects,
-    pub list: Lines<'b>,
-    ghost tied: { Tied objects.now list },
+    pub list: &'b mut Lines<'c>,
+    ghost tied: { Tied objects.now list.now },
 }

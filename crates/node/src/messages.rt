@@ -50,7 +50,8 @@ impl Head {
     ) -> (Head, Answer)
         ensures { Does (handed object.0 by.0 to.0) self tables.old result tables.new }
     {
-        if object.home() != tables.list.home {
+        let home = tables.list.home;
+        if object.home() != home {
             return (self, Err(Refusal::Misdelivered.into()));
         }
         if !tables.objects.is_present(object) {
@@ -59,7 +60,7 @@ impl Head {
         if !self.authorises(tables, object, by) {
             return (self, Err(Refusal::NotHolder.into()));
         }
-        if to == tables.list.home {
+        if to == home {
             return (self, quiet(tables.objects.root(object)));
         }
         let answer = self.give(tables, object, to);
@@ -76,8 +77,9 @@ impl Head {
     ) -> (Head, Answer)
         ensures { Does (takes object.0 to.0 stamp.0) self tables.old result tables.new }
     {
+        let home = tables.list.home;
         let from = object.home();
-        if to != tables.list.home || from == tables.list.home {
+        if to != home || from == home {
             return (self, Err(Refusal::Misdelivered.into()));
         }
         if stamp <= self.stamps.seen_from(from) {
@@ -103,7 +105,8 @@ impl Head {
         requires { rising to.0 15 (numbers part.now) ≡ true }
         ensures { Does (hears from.0 to.0 stamp.0 (numbers part.now)) self tables.old result tables.new }
     {
-        if to != tables.list.home {
+        let home = tables.list.home;
+        if to != home {
             return (self, Err(Refusal::Misdelivered.into()));
         }
         tables.list.hear(from, stamp, part);
@@ -134,7 +137,8 @@ impl Head {
     ) -> (Head, Answer)
         ensures { Does (told census.0 object.0 from.0) self tables.old result tables.new }
     {
-        if object.home() != tables.list.home {
+        let home = tables.list.home;
+        if object.home() != home {
             return (self, Err(Refusal::Misdelivered.into()));
         }
         if census < self.standing.census() {

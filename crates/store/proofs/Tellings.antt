@@ -30,6 +30,3 @@ module _ (c : Census) (from : House) where
   told_more ns i d out more v h e f g =
       let step : written (take (i + 1) ns) ≡ written (take i ns) ++ (encode (Telling c (get_or ns i d) from) [] ∷ []) = ap written (take_more ns i d h) ∙ written_append (take i ns) (get_or ns i d ∷ []) in
       ap (map items_in) f ∙ items_append (vec_items out) (v ∷ []) ∙ ap (λ xs. xs ++ (vec_items v ∷ [])) e ∙ ap (λ x. written (take i ns) ++ (x ∷ [])) g ∙ sym step
-
-  pub told_all : (ns : List Name) (i : ℕ) → length ns ≤ i → map bytes_of (tellings c from (take i ns)) ≡ map bytes_of (tellings c from ns)
-  told_all ns i h = ap (λ xs. map bytes_of (tellings c from xs)) (take_all i ns h)

@@ -24,7 +24,7 @@ returns c =
     record {
       step =
           ap (λ x. sends [] (with_heap x h))
-          (ap (λ l. collected l (heap_of t)) (sym (front into count (objects_listed (lines c.args.tables.now.list)) c.objects-count.ensures.after))
+          (ap (λ l. collected l (heap_of t)) (sym (front into count (objects_listed (lines c.args.tables.now.list.now)) c.objects-count.ensures.after))
           ∙ c.collect.ensures.lasting.sole (collected from (heap_of t)) here);
       lent = search rules;
     }

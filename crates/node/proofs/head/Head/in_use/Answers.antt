@@ -17,10 +17,10 @@ returns-then-le c =
     let n = c.args.census.0 in
     let low : ltb (census h) n ≡ false = search rules in
     let same : caught_up n h ≡ h = rw low in
-    let listed = objects_in c.census-own.result.0 (lines c.args.tables.now.list) in
+    let listed = objects_in c.census-own.result.0 (lines c.args.tables.now.list.now) in
     found_also c.met_from.result _ _
     (ap (λ l. names_in_use l (heap_of c.args.tables.now.objects.now)) (front c.objects_in-count.new.into c.objects_in-count.result listed c.objects_in-count.ensures.after)
-    ∙ ap (λ k. names_in_use (objects_in k (lines c.args.tables.now.list)) (heap_of c.args.tables.now.objects.now)) c.census-own.ensures
+    ∙ ap (λ k. names_in_use (objects_in k (lines c.args.tables.now.list.now)) (heap_of c.args.tables.now.objects.now)) c.census-own.ensures
     ∙ sym (ap used same))
     c.met_from.ensures
 
@@ -30,7 +30,7 @@ returns c =
     let n = c.args.census.0 in
     let above : ltb (census h) n ≡ true = search rules in
     let up : caught_up n h ≡ in_census n h = rw above in
-    let listed = objects_in n (joined n (heard_from c.args.self.now.stamps) (lines c.args.tables.now.list)) in
+    let listed = objects_in n (joined n (heard_from c.args.self.now.stamps) (lines c.args.tables.now.list.now)) in
     found_also c.met_from-2.result _ _
     (ap (λ l. names_in_use l (heap_of c.args.tables.now.objects.now)) (front c.objects_joining-count.new.into c.objects_joining-count.result listed c.objects_joining-count.ensures.after)
     ∙ sym (ap used up))
