@@ -16,6 +16,7 @@ use wire::{Call, House};
 
 impl Store {
     // House `home` of `houses`, with nothing in it.
+    #[tactic(auto, unfolding(lines::specs::Columns::rows))]
     pub fn new(heap: Global, home: House, houses: u8) -> Result<Store, Fault>
         ensures { MatchResult result (λ s. house_in s ≡ empty home.0 houses) (λ e. Unmade home.0 houses e) }
     {
