@@ -5,6 +5,7 @@
 use anyhow::anyhow;
 use console::Player;
 use node::Answer;
+use objects::Fault;
 use std::alloc::Global;
 use std::process::ExitCode;
 use store::Store;
@@ -23,7 +24,7 @@ struct Own {
 impl Own {
     fn got(&mut self, digits: &[u8]) -> anyhow::Result<Answer> {
         let Some(bytes) = text::read_hex(self.heap, digits)? else {
-            return Ok(Answer::Refused(Refusal::Malformed));
+            return Ok(Err(Refusal::Malformed.into()));
         };
         Ok(self.store.got(&bytes))
     }
@@ -32,7 +33,7 @@ impl Own {
 // What was sent, a message a line, or why nothing was done.
 fn report(heap: Global, answer: Answer, out: &mut String) -> anyhow::Result<()> {
     match answer {
-        Answer::Sends(sent) => {
+        Ok(sent) => {
             let messages = store::messages(heap, &sent)?;
             for bytes in messages.iter() {
                 text::write_hex(bytes, out)?;
@@ -40,11 +41,11 @@ fn report(heap: Global, answer: Answer, out: &mut String) -> anyhow::Result<()> 
             }
             Ok(())
         }
-        Answer::Refused(refusal) => {
+        Err(Fault::Refused(refusal)) => {
             text::write_refusal(refusal, out)?;
             Ok(())
         }
-        Answer::NoMemory => Err(anyhow!("out of memory")),
+        Err(Fault::NoMemory) => Err(anyhow!("out of memory")),
     }
 }
 
@@ -54,7 +55,7 @@ impl Player for Own {
             Line::Blank => return Ok(()),
             Line::Call(call) => self.store.call(call),
             Line::Got(digits) => self.got(digits)?,
-            Line::Malformed => Answer::Refused(Refusal::Malformed),
+            Line::Malformed => Err(Refusal::Malformed.into()),
         };
         report(self.heap, answer, out)
     }

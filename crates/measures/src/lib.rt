@@ -10,20 +10,13 @@ use wire::{House, Refusal};
 
 fn told_line(heap: Global, store: &mut Store, line: &[u8]) -> Result<Answer, AllocError> {
     match text::read_line(line) {
-        Line::Blank => Ok(Answer::Refused(Refusal::Malformed)),
+        Line::Blank => Ok(Err(Refusal::Malformed.into())),
         Line::Call(call) => Ok(store.call(call)),
         Line::Got(digits) => match text::read_hex(heap, digits)? {
             Some(bytes) => Ok(store.got(&bytes)),
-            None => Ok(Answer::Refused(Refusal::Malformed)),
+            None => Ok(Err(Refusal::Malformed.into())),
         },
-        Line::Malformed => Ok(Answer::Refused(Refusal::Malformed)),
-    }
-}
-
-fn is_refused(answer: Answer) -> bool {
-    match answer {
-        Answer::Sends(_) => false,
-        Answer::Refused(_) | Answer::NoMemory => true,
+        Line::Malformed => Ok(Err(Refusal::Malformed.into())),
     }
 }
 
@@ -35,7 +28,7 @@ fn told(heap: Global, store: &mut Store, lines: &[u8], ends: &[u32]) -> u64 {
         let end = *end as usize;
         if at <= end && end <= lines.len() {
             let done = match told_line(heap, store, &lines[at..end]) {
-                Ok(answer) => !is_refused(answer),
+                Ok(answer) => answer.is_ok(),
                 Err(_) => false,
             };
             if !done {
@@ -83,7 +76,7 @@ pub extern "C" fn measures_hear(
     *refused = told(heap, &mut store, lines, ends);
     let mut unheard: u64 = 0;
     for _ in 0..times {
-        if is_refused(store.got(message)) {
+        if store.got(message).is_err() {
             unheard = unheard.saturating_add(1);
         }
     }

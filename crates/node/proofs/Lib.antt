@@ -1,5 +1,5 @@
 pub mod Reached
 pub mod Bytes
-pub mod Polls
+pub mod Words
 pub mod Fairness
 pub mod Twice

@@ -2,5 +2,6 @@ pub mod House
 pub mod Executed
 pub mod Step
 pub mod Laws
+pub mod Tied
 pub mod Shown
 pub mod Recipients

@@ -1,169 +1,127 @@
 ghost use Rattle.std.specs.Prelude.{◌≡◌, [], IfOk};
 ghost use Rattle.tables.specs.Shown.{numbers};
 ghost use Rattle.objects.specs.Calls.{heap_of};
-ghost use Rattle.lines.specs.Lists.{Lent};
-ghost use Rattle.node.specs.Executed.{collected, names_in_use, references_of};
-ghost use Rattle.node.specs.Step.{used, caught_up, polled, replies_to, bytes_of, collect, word, join, tell};
-ghost use Rattle.node.specs.Shown.{house_of, Gives, Steps, Tied};
+ghost use Rattle.node.specs.Executed.{names_in_use};
+ghost use Rattle.node.specs.Step.{used, caught_up, polled, worded, bytes_of, collect, word, join, tell};
+ghost use Rattle.node.specs.Shown.{house_of, Does, Steps};
 
 use crate::head::Head;
+use crate::lent::Tables;
 use crate::sent::{Answer, Sent};
-use lines::Lines;
-use objects::Objects;
+use objects::{Fault, Objects};
 use std::alloc::{AllocError, Global};
 use wire::{Census, House, Message, Name, Part, Refusal, RoundNumber};
 
 impl Head {
     // The objects that are met neither from the roots nor from the list are freed.
-    pub fn collect(self, objects: &mut Objects, list: &Lines) -> (Head, Answer)
-        ensures { Steps result collect (house_of self objects.old list.now) objects.new list.now }
+    pub fn collect(self, tables: &mut Tables) -> (Head, Answer)
+        ensures { Steps collect self tables.old result tables.new }
     {
         let mut names = [Name(0); 2048];
-        collect_from(objects, list.objects(&mut names));
-        (self, Answer::Sends(Sent::Nothing))
+        let listed = tables.list.objects(&mut names);
+        tables.objects.collect(listed);
+        (self, Ok(Sent::Nothing))
     }
 
     // A census of this number is joined.
-    pub fn join(self, objects: &Objects, list: &mut Lines, census: u64) -> (Head, Answer)
-        ensures step { Steps result (join census) (house_of self objects.now list.old) objects.now list.new }
-        ensures lent { Lent list.old list.new }
+    pub fn join(self, tables: &mut Tables, census: u64) -> (Head, Answer)
+        ensures { Steps (join census) self tables.old result tables.new }
     {
-        if census <= self.standing.census().0 as u64 || census > 4294967295 {
-            return (self, Answer::Refused(Refusal::OutOfNumbers));
-        }
-        let head = self.catch_up(list, Census(census as u32));
-        (head, Answer::Sends(Sent::Nothing))
-    }
-
-    // The far references in use.
-    fn in_use(&self, objects: &Objects, list: &Lines) -> Result<Vec<Name>, AllocError>
-        ensures { IfOk result (λ v. numbers v.items ≡ used (house_of self.now objects.now list.now)) }
-    {
-        let mut names = [Name(0); 2048];
-        let listed = list.objects_in(self.standing.census(), &mut names);
-        met_from(self.heap, objects, listed)
+        let census = match u32::try_from(census) {
+            Ok(number) if Census(number) > self.standing.census() => Census(number),
+            _ => return (self, Err(Refusal::OutOfNumbers.into())),
+        };
+        let head = self.catch_up(tables, census);
+        (head, Ok(Sent::Nothing))
     }
 
     // The far references that are in use once a census is joined, if it is above the own; nothing is joined yet.
-    fn in_use_in(
-        &self,
-        objects: &Objects,
-        list: &Lines,
-        census: Census,
-    ) -> Result<Vec<Name>, AllocError>
-        ensures { IfOk result (λ v. numbers v.items ≡ used (caught_up census.0 (house_of self.now objects.now list.now))) }
+    fn in_use(&self, tables: &Tables, census: Census) -> Result<Vec<Name>, AllocError>
+        ensures { IfOk result (λ v. numbers v.items ≡ used (caught_up census.0 (house_of self.now tables.now))) }
     {
-        if census.0 <= self.standing.census().0 {
-            return self.in_use(objects, list);
-        }
+        let own = self.standing.census();
         let mut names = [Name(0); 2048];
-        let listed = list.objects_joining(census, &self.stamps, &mut names);
-        met_from(self.heap, objects, listed)
+        if census <= own {
+            let listed = tables.list.objects_in(own, &mut names);
+            return met_from(self.heap, &tables.objects, listed);
+        }
+        let listed = tables
+            .list
+            .objects_joining(census, &self.stamps, &mut names);
+        met_from(self.heap, &tables.objects, listed)
     }
 
     // All that is in use of other houses is told to them, until they answer.
-    pub fn tell(self, objects: &Objects, list: &Lines) -> (Head, Answer)
-        requires { Tied objects.now list.now }
-        ensures { Steps result tell (house_of self objects.now list.now) objects.now list.now }
+    pub fn tell(mut self, tables: &Tables) -> (Head, Answer)
+        ensures { Steps tell self tables.now result tables.now }
     {
-        let in_use = match self.in_use(objects, list) {
-            Ok(names) => names,
-            Err(_) => return (self, Answer::NoMemory),
-        };
         let census = self.standing.census();
-        let Head {
-            heap,
-            stamps,
-            standing,
-        } = self;
-        let (standing, due) = standing.tell(&in_use);
-        let head = Head {
-            heap,
-            stamps,
-            standing,
+        let Ok(in_use) = self.in_use(tables, census) else {
+            return (self, Err(Fault::NoMemory));
         };
+        let (standing, due) = self.standing.tell(&in_use);
+        self.standing = standing;
         match due {
-            Ok(names) => (
-                head,
-                Answer::Sends(Sent::Tellings(census, list.home, names)),
-            ),
-            Err(_) => (head, Answer::NoMemory),
+            Ok(names) => (self, Ok(Sent::Tellings(census, tables.list.home, names))),
+            Err(_) => (self, Err(Fault::NoMemory)),
         }
     }
 
     // A round of a census: the house says whether it is calm.
     pub(crate) fn poll(
         self,
-        objects: &Objects,
-        list: &mut Lines,
+        tables: &mut Tables,
         census: Census,
         number: RoundNumber,
     ) -> (Head, Answer)
-        requires { Tied objects.now list.old }
-        ensures step { Gives result.1 (polled census.0 number.0 (house_of self objects.now list.old)) (house_of self objects.now list.old) (house_of result.0 objects.now list.new) }
-        ensures lent { Lent list.old list.new }
+        ensures { Does (polled census.0 number.0) self tables.old result tables.new }
     {
-        if census.0 < self.standing.census().0 {
-            return (self, Answer::Refused(Refusal::OtherCensus));
+        if census < self.standing.census() {
+            return (self, Err(Refusal::OtherCensus.into()));
         }
-        let in_use = match self.in_use_in(objects, list, census) {
-            Ok(names) => names,
-            Err(_) => return (self, Answer::NoMemory),
+        let Ok(in_use) = self.in_use(tables, census) else {
+            return (self, Err(Fault::NoMemory));
         };
-        let head = self.catch_up(list, census);
-        let Head {
-            heap,
-            stamps,
-            standing,
-        } = head;
-        let (standing, answer) = standing.reply(list.home, census, number, &in_use);
-        let head = Head {
-            heap,
-            stamps,
-            standing,
-        };
-        match answer {
-            Ok(message) => (head, Answer::Sends(Sent::One(message))),
-            Err(refusal) => (head, Answer::Refused(refusal)),
-        }
+        let mut head = self.catch_up(tables, census);
+        let (standing, answer) = head
+            .standing
+            .reply(tables.list.home, census, number, &in_use);
+        head.standing = standing;
+        (head, answer.map(Sent::One).map_err(Fault::from))
     }
 
     // House `to` is told which of its objects this house has, and how far it has taken what was handed to it.
-    pub fn word(self, objects: &Objects, list: &Lines, to: House) -> (Head, Answer)
-        ensures { Steps result (word to.0) (house_of self objects.now list.now) objects.now list.now }
+    pub fn word(self, tables: &Tables, to: House) -> (Head, Answer)
+        ensures { Steps (word to.0) self tables.now result tables.now }
     {
-        if to.0 >= objects.houses() {
-            return (self, Answer::Refused(Refusal::Malformed));
+        let answer = self.word_for(tables, to);
+        (self, answer)
+    }
+
+    fn word_for(&self, tables: &Tables, to: House) -> Answer
+        ensures { Does (worded to.0) self.now tables.now (self.now, result) tables.now }
+    {
+        let from = tables.objects.home();
+        if to.0 >= tables.objects.houses() {
+            return Err(Refusal::Malformed.into());
         }
-        if to.0 == objects.home().0 {
-            return (self, Answer::Refused(Refusal::WrongHouse));
+        if to == from {
+            return Err(Refusal::WrongHouse.into());
         }
-        let Ok(names) = references(self.heap, objects, to) else {
-            return (self, Answer::NoMemory);
-        };
+        let names = tables.objects.references_of(self.heap, to)?;
         // there are at most 8,448 of them, so the count fits
         let Ok(count) = u16::try_from(names.len()) else {
-            return (self, Answer::NoMemory);
+            return Err(Fault::NoMemory);
         };
-        let Ok(bytes) = name_bytes(self.heap, &names) else {
-            return (self, Answer::NoMemory);
-        };
-        let stamp = self.stamps.seen_from(to);
+        let bytes = name_bytes(self.heap, &names)?;
         let message = Message::Word {
-            from: objects.home(),
+            from,
             to,
-            stamp,
+            stamp: self.stamps.seen_from(to),
             objects: Part { at: 9, count },
         };
-        (self, Answer::Sends(Sent::Word(message, bytes)))
+        Ok(Sent::Word(message, bytes))
     }
-}
-
-// What is met neither from the roots nor from these names is freed.
-fn collect_from(objects: &mut Objects, names: &[Name])
-    ensures { heap_of objects.new ≡ collected (numbers names.now) (heap_of objects.old) }
-{
-    objects.collect(names);
 }
 
 // The far references that are met from the roots and these names.
@@ -171,13 +129,6 @@ fn met_from(heap: Global, objects: &Objects, names: &[Name]) -> Result<Vec<Name>
     ensures { IfOk result (λ v. numbers v.items ≡ names_in_use (numbers names.now) (heap_of objects.now)) }
 {
     objects.in_use(heap, names)
-}
-
-// The references to objects of a house.
-fn references(heap: Global, objects: &Objects, house: House) -> Result<Vec<Name>, AllocError>
-    ensures { IfOk result (λ v. numbers v.items ≡ references_of house.0 (heap_of objects.now)) }
-{
-    objects.references_of(heap, house)
 }
 
 // Names as a word has them, four bytes each.

@@ -1,16 +1,15 @@
 ghost use Rattle.std.specs.Prelude.{◌≡◌};
-ghost use Rattle.lines.specs.Lists.{Lent};
 ghost use Rattle.lines.specs.Stamping.{unstamped};
 ghost use Rattle.census.specs.Model.{fresh};
 ghost use Rattle.census.specs.Standings.{part_of};
 ghost use Rattle.node.specs.Laws.{Lawful};
-ghost use Rattle.node.specs.Shown.{house_of, Steps, Tied, event_of};
+ghost use Rattle.node.specs.Shown.{Steps, event_of};
 
 use crate::head::Head;
+use crate::lent::Tables;
 use crate::sent::Answer;
 use census::Standing;
-use lines::{Lines, Stamps};
-use objects::Objects;
+use lines::Stamps;
 use std::alloc::Global;
 use wire::{Call, Census};
 
@@ -36,23 +35,21 @@ impl Head {
     }
 
     // A call of the house's programs, or of its collector.
-    pub fn call(self, objects: &mut Objects, list: &mut Lines, call: Call) -> (Head, Answer)
-        requires { Tied objects.old list.old }
-        ensures step { Steps result (event_of call) (house_of self objects.old list.old) objects.new list.new }
-        ensures lent { Lent list.old list.new }
+    pub fn call(self, tables: &mut Tables, call: Call) -> (Head, Answer)
+        ensures { Steps (event_of call) self tables.old result tables.new }
     {
         match call {
-            Call::Make { number } => self.make(objects, list, number),
-            Call::Link { object, target } => self.link(objects, list, object, target),
-            Call::Unlink { object, target } => self.unlink(objects, list, object, target),
-            Call::Load { object, target } => self.load(objects, list, object, target),
-            Call::Drop { object } => self.release(objects, list, object),
-            Call::Ask { object, to } => self.ask(objects, list, object, to),
-            Call::Collect => self.collect(objects, list),
-            Call::Word { to } => self.word(objects, list, to),
-            Call::Join { census } => self.join(objects, list, census),
-            Call::Tell => self.tell(objects, list),
-            Call::Round => self.round(objects, list),
+            Call::Make { number } => self.make(tables, number),
+            Call::Link { object, target } => self.link(tables, object, target),
+            Call::Unlink { object, target } => self.unlink(tables, object, target),
+            Call::Load { object, target } => self.load(tables, object, target),
+            Call::Drop { object } => self.release(tables, object),
+            Call::Ask { object, to } => self.ask(tables, object, to),
+            Call::Collect => self.collect(tables),
+            Call::Word { to } => self.word(tables, to),
+            Call::Join { census } => self.join(tables, census),
+            Call::Tell => self.tell(tables),
+            Call::Round => self.round(tables),
         }
     }
 }

@@ -6,11 +6,13 @@ mod calls;
 mod collecting;
 mod dispatch;
 mod head;
+mod lent;
 mod messages;
 mod receiving;
 mod recipients;
 mod sent;
 
 pub use head::Head;
+pub use lent::Tables;
 pub use recipients::goes_to;
 pub use sent::{Answer, Recipient, Sent};

@@ -1,285 +1,187 @@
-ghost use Rattle.std.specs.Prelude.{◌≡◌, ◌<◌, true, if◌then◌else◌, nat_lt};
+ghost use Rattle.std.specs.Prelude.{◌≡◌, true, if◌then◌else◌, nat_lt};
 ghost use Rattle.wire.specs.Format.{numbers, rising};
+ghost use Rattle.objects.specs.Calls.{heap_of};
 ghost use Rattle.lines.specs.Listed.{joined};
-ghost use Rattle.lines.specs.Lists.{lines, Lent};
-ghost use Rattle.lines.specs.Stamping.{heard_from, seen_from, with_seen};
-ghost use Rattle.census.specs.Model.{fresh, stirring, counting};
-ghost use Rattle.census.specs.Standings.{part_of, newly};
-ghost use Rattle.node.specs.Step.{authorised, gives, handed, takes, hears, told, settles, sweeps};
-ghost use Rattle.node.specs.Shown.{house_of, Gives, Tied};
+ghost use Rattle.lines.specs.Lists.{lines};
+ghost use Rattle.lines.specs.Stamping.{heard_from};
+ghost use Rattle.census.specs.Model.{fresh};
+ghost use Rattle.census.specs.Standings.{part_of};
+ghost use Rattle.node.specs.Step.{authorised, caught_up, gives, handed, takes, hears, told, settles, sweeps};
+ghost use Rattle.node.specs.Shown.{house_of, Does, SameLoan};
 
 use crate::calls::quiet;
 use crate::head::Head;
+use crate::lent::Tables;
 use crate::sent::{Answer, Sent};
 use census::Marked;
-use lines::Lines;
-use objects::Objects;
 use wire::{Census, House, Message, Name, Refusal, Stamp};
 
 impl Head {
     // Whether `by` may have the object handed on: it is the home itself and has it as a root, or holds it by a line of the home's census.
-    fn authorises(&self, objects: &Objects, list: &Lines, object: Name, by: House) -> bool
-        requires { Tied objects.now list.now }
-        ensures { result ≡ authorised object.0 by.0 (house_of self.now objects.now list.now) }
+    fn authorises(&self, tables: &Tables, object: Name, by: House) -> bool
+        ensures { result ≡ authorised object.0 by.0 (house_of self.now tables.now) }
     {
-        (by.0 == list.home.0 && objects.is_root(object))
-            || list.is_held(object, by, self.standing.census())
+        (by == tables.list.home && tables.objects.is_root(object))
+            || tables.list.is_held(object, by, self.standing.census())
     }
 
     // The object is handed to another house.
-    fn give(self, objects: &Objects, list: &mut Lines, object: Name, to: House) -> (Head, Answer)
-        requires { Tied objects.now list.old }
-        ensures step { Gives result.1 (gives object.0 to.0 (house_of self objects.now list.old)) (house_of self objects.now list.old) (house_of result.0 objects.now list.new) }
-        ensures lent { Lent list.old list.new }
+    fn give(&mut self, tables: &mut Tables, object: Name, to: House) -> Answer
+        ensures { Does (gives object.0 to.0) self.old tables.old (self.new, result) tables.new }
     {
-        if !list.has_room(object, to) {
-            return (self, Answer::Refused(Refusal::NoRoom));
+        if !tables.list.has_room(object, to) {
+            return Err(Refusal::NoRoom.into());
         }
-        let stamp = match self.stamps.next_for(to) {
-            Ok(stamp) => stamp,
-            Err(refusal) => return (self, Answer::Refused(refusal)),
-        };
-        if let Err(refusal) = list.enter(object, to, stamp, self.standing.census()) {
-            return (self, Answer::Refused(refusal));
-        }
-        let Head {
-            heap,
-            mut stamps,
-            standing,
-        } = self;
-        let _ = stamps.give(to);
-        (
-            Head {
-                heap,
-                stamps,
-                standing,
-            },
-            Answer::Sends(Sent::One(Message::Give { object, to, stamp })),
-        )
+        let stamp = self.stamps.next_for(to)?;
+        tables
+            .list
+            .enter(object, to, stamp, self.standing.census())?;
+        let _ = self.stamps.give(to);
+        Ok(Sent::One(Message::Give { object, to, stamp }))
     }
 
     // Asked by `by` to hand an object to `to`.
     pub(crate) fn hand(
-        self,
-        objects: &mut Objects,
-        list: &mut Lines,
+        mut self,
+        tables: &mut Tables,
         object: Name,
         by: House,
         to: House,
     ) -> (Head, Answer)
-        requires { Tied objects.old list.old }
-        ensures step { Gives result.1 (handed object.0 by.0 to.0 (house_of self objects.old list.old)) (house_of self objects.old list.old) (house_of result.0 objects.new list.new) }
-        ensures lent { Lent list.old list.new }
+        ensures { Does (handed object.0 by.0 to.0) self tables.old result tables.new }
     {
-        if object.home().0 != list.home.0 {
-            return (self, Answer::Refused(Refusal::Misdelivered));
+        let home = tables.list.home;
+        if object.home() != home {
+            return (self, Err(Refusal::Misdelivered.into()));
         }
-        if !objects.is_present(object) {
-            return (self, Answer::Refused(Refusal::NotHere));
+        if !tables.objects.is_present(object) {
+            return (self, Err(Refusal::NotHere.into()));
         }
-        if !self.authorises(objects, list, object, by) {
-            return (self, Answer::Refused(Refusal::NotHolder));
+        if !self.authorises(tables, object, by) {
+            return (self, Err(Refusal::NotHolder.into()));
         }
-        if to.0 == list.home.0 {
-            let answer = quiet(objects.root(object));
-            return (self, answer);
+        if to == home {
+            return (self, quiet(tables.objects.root(object)));
         }
-        self.give(objects, list, object, to)
+        let answer = self.give(tables, object, to);
+        (self, answer)
     }
 
     // A reference was handed to `to`.
     pub(crate) fn take(
-        self,
-        objects: &mut Objects,
-        list: &Lines,
+        mut self,
+        tables: &mut Tables,
         object: Name,
         to: House,
         stamp: Stamp,
     ) -> (Head, Answer)
-        requires { Tied objects.old list.now }
-        ensures { Gives result.1 (takes object.0 to.0 stamp.0 (house_of self objects.old list.now)) (house_of self objects.old list.now) (house_of result.0 objects.new list.now) }
+        ensures { Does (takes object.0 to.0 stamp.0) self tables.old result tables.new }
     {
+        let home = tables.list.home;
         let from = object.home();
-        if to.0 != list.home.0 || from.0 == list.home.0 {
-            return (self, Answer::Refused(Refusal::Misdelivered));
+        if to != home || from == home {
+            return (self, Err(Refusal::Misdelivered.into()));
         }
-        if stamp.0 <= self.stamps.seen_from(from).0 {
-            return (self, Answer::Refused(Refusal::OldStamp));
+        if stamp <= self.stamps.seen_from(from) {
+            return (self, Err(Refusal::OldStamp.into()));
         }
-        if let Err(refusal) = objects.take(object) {
-            return (self, Answer::Refused(refusal));
+        if let Err(refusal) = tables.objects.take(object) {
+            return (self, Err(refusal.into()));
         }
-        (self.seen(from, stamp), Answer::Sends(Sent::Nothing))
-    }
-
-    // A reference of house `from` is a root now: its stamp is seen.
-    fn seen(self, from: House, stamp: Stamp) -> Head
-        requires house { from.0 < 16 }
-        requires new { seen_from self.stamps from.0 < stamp.0 }
-        ensures stamps { result.stamps ≡ with_seen self.stamps from.0 stamp.0 }
-        ensures part { part_of result.standing ≡ stirring (part_of self.standing) }
-    {
-        let Head {
-            heap,
-            mut stamps,
-            standing,
-        } = self;
-        let _ = stamps.see(from, stamp);
-        Head {
-            heap,
-            stamps,
-            standing: standing.taken(),
-        }
+        let _ = self.stamps.see(from, stamp);
+        self.standing = self.standing.taken();
+        (self, Ok(Sent::Nothing))
     }
 
     // A word of house `from`.
     pub(crate) fn hear(
-        self,
-        objects: &Objects,
-        list: &mut Lines,
+        mut self,
+        tables: &mut Tables,
         from: House,
         to: House,
         stamp: Stamp,
         part: &[u8],
     ) -> (Head, Answer)
-        requires tied { Tied objects.now list.old }
-        requires rising { rising to.0 15 (numbers part.now) ≡ true }
-        ensures step { Gives result.1 (hears from.0 to.0 stamp.0 (numbers part.now) (house_of self objects.now list.old)) (house_of self objects.now list.old) (house_of result.0 objects.now list.new) }
-        ensures lent { Lent list.old list.new }
+        requires { rising to.0 15 (numbers part.now) ≡ true }
+        ensures { Does (hears from.0 to.0 stamp.0 (numbers part.now)) self tables.old result tables.new }
     {
-        if to.0 != list.home.0 {
-            return (self, Answer::Refused(Refusal::Misdelivered));
+        let home = tables.list.home;
+        if to != home {
+            return (self, Err(Refusal::Misdelivered.into()));
         }
-        list.hear(from, stamp, part);
-        let Head {
-            heap,
-            mut stamps,
-            standing,
-        } = self;
-        let _ = stamps.hear(from, stamp);
-        (
-            Head {
-                heap,
-                stamps,
-                standing,
-            },
-            Answer::Sends(Sent::Nothing),
-        )
+        tables.list.hear(from, stamp, part);
+        let _ = self.stamps.hear(from, stamp);
+        (self, Ok(Sent::Nothing))
     }
 
     // A census above the own is joined.
-    pub(crate) fn catch_up(self, list: &mut Lines, census: Census) -> Head
-        ensures list { lines list.new ≡ (if nat_lt (part_of self.standing).census census.0 then joined census.0 (heard_from self.stamps) (lines list.old) else lines list.old) }
-        ensures stamps { result.stamps ≡ self.stamps }
-        ensures part { part_of result.standing ≡ (if nat_lt (part_of self.standing).census census.0 then fresh census.0 else part_of self.standing) }
-        ensures lent { Lent list.old list.new }
+    pub(crate) fn catch_up(mut self, tables: &mut Tables, census: Census) -> Head
+        ensures after { house_of result tables.new ≡ caught_up census.0 (house_of self tables.old) }
+        ensures lent { SameLoan tables.old tables.new }
     {
-        if census.0 <= self.standing.census().0 {
+        if census <= self.standing.census() {
             return self;
         }
-        list.join(census, &self.stamps);
-        let Head {
-            heap,
-            stamps,
-            standing,
-        } = self;
-        let (standing, _) = standing.join(census);
-        Head {
-            heap,
-            stamps,
-            standing,
-        }
+        tables.list.join(census, &self.stamps);
+        (self.standing, _) = self.standing.join(census);
+        self
     }
 
     // House `from` tells that it uses an object of this house in a census.
     pub(crate) fn mark(
         self,
-        objects: &Objects,
-        list: &mut Lines,
+        tables: &mut Tables,
         census: Census,
         object: Name,
         from: House,
     ) -> (Head, Answer)
-        requires { Tied objects.now list.old }
-        ensures step { Gives result.1 (told census.0 object.0 from.0 (house_of self objects.now list.old)) (house_of self objects.now list.old) (house_of result.0 objects.now list.new) }
-        ensures lent { Lent list.old list.new }
+        ensures { Does (told census.0 object.0 from.0) self tables.old result tables.new }
     {
-        if object.home().0 != list.home.0 {
-            return (self, Answer::Refused(Refusal::Misdelivered));
+        let home = tables.list.home;
+        if object.home() != home {
+            return (self, Err(Refusal::Misdelivered.into()));
         }
-        if census.0 < self.standing.census().0 {
-            return (self, Answer::Refused(Refusal::OtherCensus));
+        if census < self.standing.census() {
+            return (self, Err(Refusal::OtherCensus.into()));
         }
-        let head = self.catch_up(list, census);
-        let line = if list.mark(object, from, census) {
-            Marked::New
-        } else {
-            Marked::Again
-        };
+        let mut head = self.catch_up(tables, census);
+        if tables.list.mark(object, from, census) {
+            head.standing = head.standing.counted(Marked::New);
+        }
         let answer = Message::Answer {
             census,
             object,
             from,
         };
-        (head.counted(line), Answer::Sends(Sent::One(answer)))
-    }
-
-    fn counted(self, line: Marked) -> Head
-        ensures stamps { result.stamps ≡ self.stamps }
-        ensures part { part_of result.standing ≡ counting (newly line) (part_of self.standing) }
-    {
-        let Head {
-            heap,
-            stamps,
-            standing,
-        } = self;
-        Head {
-            heap,
-            stamps,
-            standing: standing.counted(line),
-        }
+        (head, Ok(Sent::One(answer)))
     }
 
     // The answer to a telling of this house.
     pub(crate) fn settle(
-        self,
-        objects: &Objects,
-        list: &Lines,
+        mut self,
+        tables: &Tables,
         census: Census,
         object: Name,
         from: House,
     ) -> (Head, Answer)
-        requires { Tied objects.now list.now }
-        ensures { Gives result.1 (settles census.0 object.0 from.0 (house_of self objects.now list.now)) (house_of self objects.now list.now) (house_of result.0 objects.now list.now) }
+        ensures { Does (settles census.0 object.0 from.0) self tables.now result tables.now }
     {
-        if from.0 != list.home.0 {
-            return (self, Answer::Refused(Refusal::Misdelivered));
+        if from != tables.list.home {
+            return (self, Err(Refusal::Misdelivered.into()));
         }
-        let Head {
-            heap,
-            stamps,
-            standing,
-        } = self;
-        let (standing, answer) = standing.answered(census, object);
-        (
-            Head {
-                heap,
-                stamps,
-                standing,
-            },
-            quiet(answer),
-        )
+        let (standing, answer) = self.standing.answered(census, object);
+        self.standing = standing;
+        (self, quiet(answer))
     }
 
     // The news that a census is complete.
-    pub(crate) fn sweep(self, objects: &Objects, list: &mut Lines, census: Census) -> (Head, Answer)
-        ensures step { Gives result.1 (sweeps census.0 (house_of self objects.now list.old)) (house_of self objects.now list.old) (house_of result.0 objects.now list.new) }
-        ensures lent { Lent list.old list.new }
+    pub(crate) fn sweep(self, tables: &mut Tables, census: Census) -> (Head, Answer)
+        ensures { Does (sweeps census.0) self tables.old result tables.new }
     {
-        if census.0 != self.standing.census().0 {
-            return (self, Answer::Refused(Refusal::OtherCensus));
+        if census != self.standing.census() {
+            return (self, Err(Refusal::OtherCensus.into()));
         }
-        list.sweep(census);
-        (self, Answer::Sends(Sent::Nothing))
+        tables.list.sweep(census);
+        (self, Ok(Sent::Nothing))
     }
 }

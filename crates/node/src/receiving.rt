@@ -1,63 +1,51 @@
 ghost use Rattle.std.specs.Prelude.{◌≡◌};
 ghost use Rattle.wire.specs.Laws.{Rises};
-ghost use Rattle.lines.specs.Lists.{Lent};
 ghost use Rattle.node.specs.Step.{receives, came};
-ghost use Rattle.node.specs.Shown.{house_of, Gives, Steps, Tied};
+ghost use Rattle.node.specs.Shown.{Does, Steps};
 
 use crate::head::Head;
+use crate::lent::Tables;
 use crate::sent::Answer;
-use lines::Lines;
-use objects::Objects;
 use wire::{Message, Refusal};
 
 impl Head {
     // A message that was read, with its objects' part.
-    fn receive(
-        self,
-        objects: &mut Objects,
-        list: &mut Lines,
-        message: Message,
-        part: &[u8],
-    ) -> (Head, Answer)
-        requires tied { Tied objects.old list.old }
-        requires rises { Rises message part.now }
-        ensures step { Gives result.1 (receives message part.now (house_of self objects.old list.old)) (house_of self objects.old list.old) (house_of result.0 objects.new list.new) }
-        ensures lent { Lent list.old list.new }
+    fn receive(self, tables: &mut Tables, message: Message, part: &[u8]) -> (Head, Answer)
+        requires { Rises message part.now }
+        ensures { Does (receives message part.now) self tables.old result tables.new }
     {
         match message {
-            Message::Ask { object, by, to } => self.hand(objects, list, object, by, to),
-            Message::Give { object, to, stamp } => self.take(objects, list, object, to, stamp),
+            Message::Ask { object, by, to } => self.hand(tables, object, by, to),
+            Message::Give { object, to, stamp } => self.take(tables, object, to, stamp),
             Message::Word {
                 from,
                 to,
                 stamp,
-                objects: _,
-            } => self.hear(objects, list, from, to, stamp, part),
+                ..
+            } => self.hear(tables, from, to, stamp, part),
             Message::Telling {
                 census,
                 object,
                 from,
-            } => self.mark(objects, list, census, object, from),
+            } => self.mark(tables, census, object, from),
             Message::Answer {
                 census,
                 object,
                 from,
-            } => self.settle(objects, list, census, object, from),
-            Message::Round { census, number } => self.poll(objects, list, census, number),
-            Message::Reply { .. } => (self, Answer::Refused(Refusal::Misdelivered)),
-            Message::Complete { census } => self.sweep(objects, list, census),
+            } => self.settle(tables, census, object, from),
+            Message::Round { census, number } => self.poll(tables, census, number),
+            Message::Reply { .. } => (self, Err(Refusal::Misdelivered.into())),
+            Message::Complete { census } => self.sweep(tables, census),
         }
     }
 
     // These bytes came, whatever they are.
-    pub fn got(self, objects: &mut Objects, list: &mut Lines, bytes: &[u8]) -> (Head, Answer)
-        requires { Tied objects.old list.old }
-        ensures step { Steps result (came bytes.now) (house_of self objects.old list.old) objects.new list.new }
-        ensures lent { Lent list.old list.new }
+    pub fn got(self, tables: &mut Tables, bytes: &[u8]) -> (Head, Answer)
+        ensures { Steps (came bytes.now) self tables.old result tables.new }
     {
-        match wire::read(bytes, list.houses) {
-            Ok(read) => self.receive(objects, list, read.message, read.objects),
-            Err(refusal) => (self, Answer::Refused(refusal)),
+        match wire::read(bytes, tables.list.houses) {
+            Ok(read) => self.receive(tables, read.message, read.objects),
+            Err(refusal) => (self, Err(refusal.into())),
         }
     }
 }

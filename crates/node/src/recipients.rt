@@ -10,32 +10,11 @@ pub fn goes_to(message: Message) -> Recipient
     ensures { result ≡ recipient_of message }
 {
     match message {
-        Message::Ask {
-            object,
-            by: _,
-            to: _,
-        } => Recipient::One(object.home()),
-        Message::Give {
-            object: _,
-            to,
-            stamp: _,
-        } => Recipient::One(to),
-        Message::Word {
-            from: _,
-            to,
-            stamp: _,
-            objects: _,
-        } => Recipient::One(to),
-        Message::Telling {
-            census: _,
-            object,
-            from: _,
-        } => Recipient::One(object.home()),
-        Message::Answer {
-            census: _,
-            object: _,
-            from,
-        } => Recipient::One(from),
+        Message::Ask { object, .. } | Message::Telling { object, .. } => {
+            Recipient::One(object.home())
+        }
+        Message::Give { to, .. } | Message::Word { to, .. } => Recipient::One(to),
+        Message::Answer { from, .. } => Recipient::One(from),
         Message::Round { .. } | Message::Complete { .. } => Recipient::Every,
         Message::Reply { .. } => Recipient::One(ASKER),
     }

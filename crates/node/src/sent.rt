@@ -1,4 +1,5 @@
-use wire::{Census, House, Message, Name, Refusal};
+use objects::Fault;
+use wire::{Census, House, Message, Name};
 
 // The messages that a step sends.
 #[derive(Drop)]
@@ -11,16 +12,10 @@ pub enum Sent {
     Tellings(Census, House, Vec<Name>),
 }
 
-// How a step ended.
-#[derive(Drop)]
-pub enum Answer {
-    Sends(Sent),
-    Refused(Refusal),
-    // nothing was done, for want of memory
-    NoMemory,
-}
+// How a step ended: what it sends, or why nothing was done.
+pub type Answer = Result<Sent, Fault>;
 
-// Whom a message is for.
+// Whom a message is for. No Option<House>: its None would read as nobody.
 #[derive(Clone, Copy)]
 pub enum Recipient {
     One(House),

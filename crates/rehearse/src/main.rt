@@ -6,6 +6,7 @@ use anyhow::anyhow;
 use console::Player;
 use lines::Line;
 use node::{Answer, Recipient};
+use objects::Fault;
 use std::alloc::Global;
 use std::fmt::Write;
 use std::process::ExitCode;
@@ -29,7 +30,7 @@ impl Rehearsal {
     // What a house answered: the messages are kept, and printed with their numbers.
     fn report(&mut self, answer: Answer, out: &mut String) -> anyhow::Result<()> {
         match answer {
-            Answer::Sends(sent) => {
+            Ok(sent) => {
                 for bytes in store::messages(self.heap, &sent)? {
                     let number = self.sent.len().saturating_add(1);
                     write!(out, "{number} ")?;
@@ -39,18 +40,18 @@ impl Rehearsal {
                 }
                 Ok(())
             }
-            Answer::Refused(refusal) => {
+            Err(Fault::Refused(refusal)) => {
                 text::write_refusal(refusal, out)?;
                 Ok(())
             }
-            Answer::NoMemory => Err(anyhow!("out of memory")),
+            Err(Fault::NoMemory) => Err(anyhow!("out of memory")),
         }
     }
 
     fn call(&mut self, house: House, call: Call, out: &mut String) -> anyhow::Result<()> {
         let answer = match self.houses.get_mut(house.0 as usize) {
             Some(store) => store.call(call),
-            None => Answer::Refused(Refusal::Malformed),
+            None => Err(Refusal::Malformed.into()),
         };
         self.report(answer, out)
     }
@@ -59,7 +60,7 @@ impl Rehearsal {
     fn got(&mut self, house: House, bytes: &[u8], out: &mut String) -> anyhow::Result<()> {
         let answer = match self.houses.get_mut(house.0 as usize) {
             Some(store) => store.got(bytes),
-            None => Answer::Refused(Refusal::Malformed),
+            None => Err(Refusal::Malformed.into()),
         };
         self.report(answer, out)
     }
@@ -81,14 +82,14 @@ impl Rehearsal {
     fn deliver_at(&mut self, house: House, number: u64, out: &mut String) -> anyhow::Result<()> {
         match self.message(number)? {
             Some(bytes) => self.got(house, &bytes, out),
-            None => self.report(Answer::Refused(Refusal::Malformed), out),
+            None => self.report(Err(Refusal::Malformed.into()), out),
         }
     }
 
     // A message comes to whom it is for.
     fn deliver(&mut self, number: u64, out: &mut String) -> anyhow::Result<()> {
         let Some(bytes) = self.message(number)? else {
-            return self.report(Answer::Refused(Refusal::Malformed), out);
+            return self.report(Err(Refusal::Malformed.into()), out);
         };
         let count = self.houses.len().min(4) as u8;
         match wire::read(&bytes, count) {
@@ -101,7 +102,7 @@ impl Rehearsal {
                     Ok(())
                 }
             },
-            Err(refusal) => self.report(Answer::Refused(refusal), out),
+            Err(refusal) => self.report(Err(refusal.into()), out),
         }
     }
 
@@ -159,12 +160,12 @@ impl Player for Rehearsal {
             Play::CallAt(house, call) => self.call(house, call, out),
             Play::GotAt(house, digits) => match text::read_hex(self.heap, digits)? {
                 Some(bytes) => self.got(house, &bytes, out),
-                None => self.report(Answer::Refused(Refusal::Malformed), out),
+                None => self.report(Err(Refusal::Malformed.into()), out),
             },
             Play::DeliverAt(house, message) => self.deliver_at(house, message, out),
             Play::Deliver(message) => self.deliver(message, out),
             Play::Show => self.show(out),
-            Play::Malformed => self.report(Answer::Refused(Refusal::Malformed), out),
+            Play::Malformed => self.report(Err(Refusal::Malformed.into()), out),
         }
     }
 }

@@ -2,6 +2,7 @@
 
 #![tactic(auto)]
 
+mod event;
 mod sending;
 mod showing;
 mod steps;

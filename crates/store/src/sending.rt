@@ -1,4 +1,4 @@
-ghost use Rattle.std.specs.Prelude.{◌≡◌, [], ◌∷◌, map, IfOk};
+ghost use Rattle.std.specs.Prelude.{◌≡◌, map, IfOk};
 ghost use Rattle.wire.specs.Format.{encode};
 ghost use Rattle.node.specs.Shown.{letters};
 ghost use Rattle.store.specs.Sending.{bytes_of, contents, tellings};
@@ -25,26 +25,14 @@ fn telling_bytes(
     ensures { IfOk result (λ v. contents v ≡ map bytes_of (tellings census from names.now)) }
 {
     let mut out = Vec::new(heap);
-    for name in names {
-        let bytes = message_bytes(
-            heap,
-            Message::Telling {
-                census,
-                object: *name,
-                from,
-            },
-            &[],
-        )?;
-        out.push(bytes)?;
+    for &object in names {
+        let telling = Message::Telling {
+            census,
+            object,
+            from,
+        };
+        out.push(message_bytes(heap, telling, &[])?)?;
     }
-    Ok(out)
-}
-
-fn one(heap: Global, bytes: Vec<u8>) -> Result<Vec<Vec<u8>>, AllocError>
-    ensures { IfOk result (λ v. contents v ≡ bytes.items ∷ []) }
-{
-    let mut out = Vec::new(heap);
-    out.push(bytes)?;
     Ok(out)
 }
 
@@ -54,8 +42,8 @@ pub fn messages(heap: Global, sent: &Sent) -> Result<Vec<Vec<u8>>, AllocError>
 {
     match sent {
         Sent::Nothing => Ok(Vec::new(heap)),
-        Sent::One(message) => one(heap, message_bytes(heap, *message, &[])?),
-        Sent::Word(message, objects) => one(heap, message_bytes(heap, *message, objects)?),
+        Sent::One(message) => Ok(vec![in heap; message_bytes(heap, *message, &[])?]?),
+        Sent::Word(message, objects) => Ok(vec![in heap; message_bytes(heap, *message, objects)?]?),
         Sent::Tellings(census, from, names) => telling_bytes(heap, *census, *from, names),
     }
 }

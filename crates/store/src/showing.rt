@@ -31,7 +31,8 @@ impl Store {
         self.objects.roots()
     }
 
-    // The line of the list at place `i`.
+    // The line of the list at place `i`. It is read from the columns themselves, since `Lines` can be lent them only to write.
+    #[tactic(auto, using(lines::proofs::Rows::line_at_none, lines::proofs::Rows::line_at_row))]
     pub fn line(&self, i: usize) -> Option<Line>
         ensures { result ≡ line_at i (house_in self.now).list }
     {

@@ -1,20 +1,22 @@
 ghost use Rattle.std.specs.Prelude.{◌≡◌, MatchResult};
 ghost use Rattle.objects.specs.Calls.{Unmade};
 ghost use Rattle.node.specs.House.{empty};
-ghost use Rattle.node.specs.Laws.{AlwaysFair};
 ghost use Rattle.node.specs.Shown.{Gives, event_of};
 ghost use Rattle.node.specs.Step.{step, came};
+ghost use Rattle.store.specs.Events.{event_in};
 ghost use Rattle.store.specs.Stores.{house_in};
 
+use crate::event::Event;
 use crate::table::Store;
 use lines::Lines;
-use node::{Answer, Head};
+use node::{Answer, Head, Tables};
 use objects::{Fault, Objects};
 use std::alloc::Global;
 use wire::{Call, House};
 
 impl Store {
     // House `home` of `houses`, with nothing in it.
+    #[tactic(auto, unfolding(lines::specs::Columns::rows))]
     pub fn new(heap: Global, home: House, houses: u8) -> Result<Store, Fault>
         ensures { MatchResult result (λ s. house_in s ≡ empty home.0 houses) (λ e. Unmade home.0 houses e) }
     {
@@ -37,27 +39,19 @@ impl Store {
     pub fn call(&mut self, call: Call) -> Answer
         ensures step { Gives result (step (house_in self.old) (event_of call)) (house_in self.old) (house_in self.new) }
     {
-        let head = std::mem::replace(&mut self.head, Head::new(self.heap));
-        let mut list = Lines {
-            objects: &mut self.held,
-            holders: &mut self.holders,
-            stamps: &mut self.stamps,
-            censuses: &mut self.censuses,
-            len: self.len,
-            room: 2048,
-            home: self.home,
-            houses: self.houses,
-        };
-        let (head, answer) = head.call(&mut self.objects, &mut list, call);
-        let len = list.len;
-        self.len = len;
-        self.head = head;
-        answer
+        self.step(Event::Call(call))
     }
 
     // These bytes came to the house, whatever they are.
     pub fn got(&mut self, bytes: &[u8]) -> Answer
         ensures step { Gives result (step (house_in self.old) (came bytes.now)) (house_in self.old) (house_in self.new) }
+    {
+        self.step(Event::Came(bytes))
+    }
+
+    // The tables are lent to the head for one step.
+    fn step(&mut self, event: Event) -> Answer
+        ensures { Gives result (step (house_in self.old) (event_in event.entry)) (house_in self.old) (house_in self.new) }
     {
         let head = std::mem::replace(&mut self.head, Head::new(self.heap));
         let mut list = Lines {
@@ -70,7 +64,11 @@ impl Store {
             home: self.home,
             houses: self.houses,
         };
-        let (head, answer) = head.got(&mut self.objects, &mut list, bytes);
+        let mut tables = Tables {
+            objects: &mut self.objects,
+            list: &mut list,
+        };
+        let (head, answer) = event.at(head, &mut tables);
         let len = list.len;
         self.len = len;
         self.head = head;

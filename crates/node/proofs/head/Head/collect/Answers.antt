@@ -1,17 +1,28 @@
-use Rattle.std.proofs.Common.{[], sym, ap, ◌∙◌}
+use Rattle.std.proofs.Common.{rules, [], vec_items, sym, ap, ◌∙◌}
+use Rattle.tables.proofs.Places.{names_in_place}
+use Rattle.tables.specs.Model.{rising}
+use Rattle.tables.specs.Shown.{numbers}
+use Rattle.objects.specs.Calls.{heap_of}
 use Rattle.lines.specs.Listed.{objects_listed}
 use Rattle.lines.specs.Lists.{lines}
-use Rattle.objects.specs.Calls.{heap_of}
 use Rattle.node.specs.Executed.{collected}
 use Rattle.node.specs.House.{with_heap}
 use Rattle.node.specs.Shown.{house_of}
 use Rattle.node.specs.Step.{sends}
 use Rattle.node.proofs.Bytes.{back}
+use Rattle.node.proofs.Reached.{collects}
 use Rattle.node.proofs.head.Head.collect.Goals as goal
 
 pub returns : goal.returns
 returns c =
-    let h = house_of c.args.self c.args.objects.now c.args.list.now in
-    let listed = objects_listed (lines c.args.list.now) in
-    ap (λ x. sends [] (with_heap x h))
-    (sym (c.collect_from.ensures ∙ ap (λ l. collected l (heap_of c.args.objects.now)) (back _ listed c.objects.ensures)))
+    let h = house_of c.args.self c.args.tables.now in
+    let t = c.args.tables.now.objects.now in
+    let from = numbers c.objects-listed.result.now in
+    let here = collects (heap_of t) from (ap rising (names_in_place (vec_items t.objects)) ∙ t.ordered) in
+    record {
+      step =
+          ap (λ x. sends [] (with_heap x h))
+          (ap (λ l. collected l (heap_of t)) (sym (back _ (objects_listed (lines c.args.tables.now.list.now)) c.objects-listed.ensures))
+          ∙ c.collect.ensures.lasting.sole (collected from (heap_of t)) here);
+      lent = search rules;
+    }

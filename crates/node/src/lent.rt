@@ -1,0 +1,12 @@
+ghost use Rattle.node.specs.Tied.{Tied};
+
+use lines::Lines;
+use objects::Objects;
+
+// What is lent to a house's head for a step: the house's objects and its list.
+#[derive(Drop)]
+pub struct Tables<'a, 'b, 'c> {
+    pub objects: &'a mut Objects,
+    pub list: &'b mut Lines<'c>,
+    ghost tied: { Tied objects.now list.now },
+}
