@@ -20,6 +20,7 @@ impl Marking<'_> {
     // Marks the object named `p`; says whether it had no mark.
     fn note(&mut self, p: Name) -> bool
         ensures kept { self.new.objects ≡ self.old.objects }
+        ensures same_reference { self.new.marks.ghost_name ≡ self.old.marks.ghost_name }
         ensures after { self.new.marks.now ≡ noted p.0 (names_in self.old.objects.now) self.old.marks.now }
         ensures added { result ≡ nat_lt (count self.old.marks.now) (count self.new.marks.now) }
     {
@@ -36,6 +37,7 @@ impl Marking<'_> {
     // Marks the objects that are named; says whether one had no mark.
     fn spread(&mut self, names: &[Name]) -> bool
         ensures kept { self.new.objects ≡ self.old.objects }
+        ensures same_reference { self.new.marks.ghost_name ≡ self.old.marks.ghost_name }
         ensures after { self.new.marks.now ≡ noted_all (numbers names.now) (names_in self.old.objects.now) self.old.marks.now }
         ensures added { result ≡ nat_lt (count self.old.marks.now) (count self.new.marks.now) }
     {
@@ -49,6 +51,7 @@ impl Marking<'_> {
     // One pass over all objects and fields: what marked objects refer to is marked; says whether one had no mark.
     fn pass(&mut self) -> bool
         ensures kept { self.new.objects ≡ self.old.objects }
+        ensures same_reference { self.new.marks.ghost_name ≡ self.old.marks.ghost_name }
         ensures after { self.new.marks.now ≡ passed (names_in self.old.objects.now) (field_lists self.old.objects.now) 0 (length self.old.objects.now) self.old.marks.now }
         ensures added { result ≡ nat_lt (count self.old.marks.now) (count self.new.marks.now) }
     {
