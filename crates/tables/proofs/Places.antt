@@ -3,7 +3,7 @@ use Rattle.std.proofs.Common.{◌≡◌, ℕ, zero, suc, ◌+◌, ◌-◌, ◌<�
 use Rattle.std.proofs.lemmas.Bool.{ltb-true, ltb-false, lt-ltb, le-ltb, and_parts, cond-true, cond-false, cases_lt, eq-eqb, ne_eqb, cases_eq, eqb-true, or_left, or_right, or_from, or_cases, or_parts, and_from, cases_Bool, both_ways, cond_both, eqb-false}
 use Rattle.std.proofs.lemmas.List.{get_or-map, length-map}
 use Rattle.std.proofs.lemmas.List.Sorted.{IsPartitionedBy-ltb}
-use Rattle.std.specs.List.{insert, remove}
+use Rattle.std.specs.List.{insert, remove, position, position_or_len}
 use Rattle.std.specs.Option.{option_eq}
 use Rattle.std.specs.List.Sorted.{IsPartitionedBy, IsPartitionPoint}
 use Rattle.tables.specs.declared.object.Object.{Object}
@@ -229,32 +229,45 @@ pub held_place : (b : Bool) (p : Option ℕ) (at : ℕ) → Some at ≡ cond b p
 held_place true p at e = (refl, e)
 held_place false p at e = absurd (some_none at e)
 
+-- what the search for the first of a name says of the list
 module _ (p : ℕ) where
-  none_in : (xs : List ℕ) → ((k : ℕ) → k < length xs → get_or xs k 0 ≡ p → ⊥) → is_in p xs ≡ false
-  none_in [] f = refl
-  none_in (x ∷ xs) f = or_from (eqb x p) (is_in p xs) (ne_eqb x p (f 0 (omega arith))) (none_in xs (λ k h e. f (suc k) (omega arith) e))
+  abbrev first_place : List Name → ℕ
+  first_place ns = position_or_len (λ q. eqb q.0 p) ns
 
-  first_removed : (xs : List ℕ) (r : ℕ) → r < length xs → ((k : ℕ) → k < r → get_or xs k 0 ≡ p → ⊥) → get_or xs r 0 ≡ p → without_first p xs ≡ remove xs r
-  first_removed [] r h f e = absurd (omega arith)
-  first_removed (x ∷ xs) zero h f e = cond-true (eqb x p) xs (x ∷ without_first p xs) (eq-eqb x p e)
-  first_removed (x ∷ xs) (suc r) h f e =
-      cond-false (eqb x p) xs (x ∷ without_first p xs) (ne_eqb x p (f 0 (omega arith)))
-      ∙ ap (λ t. x ∷ t) (first_removed xs r (omega arith) (λ k l g. f (suc k) (omega arith) g) e)
+  next : (a b : ℕ) → ltb a b ≡ ltb (1 + a) (suc b)
+  next a b = ⊎_elim
+      (λ h. lt-ltb a b h ∙ sym (lt-ltb (1 + a) (suc b) (omega arith)))
+      (λ h. le-ltb a b h ∙ sym (le-ltb (1 + a) (suc b) (omega arith)))
+      (cases_lt a b)
 
-  module _ (ns : List Name) (r : ℕ) (before : (k : ℕ) → k < r → (get_or ns k (name 0)).0 ≡ p → ⊥) where
-    at_number : (k : ℕ) → k < length ns → get_or (numbers ns) k 0 ≡ (get_or ns k (name 0)).0
-    at_number k h = get_or-map number ns k (name 0) 0 h
+  found_within : (ns : List Name) → is_in p (numbers ns) ≡ ltb (first_place ns) (length ns)
+  found_within [] = refl
+  found_within (n ∷ ns) = ⊎_elim
+      (λ t. rw t (sym (lt-ltb 0 (length (n ∷ ns)) (omega arith))))
+      (λ f. rw f (found_within ns ∙ next (first_place ns) (length ns)))
+      (cases_Bool (eqb n.0 p))
 
-    -- what the search for the first of a name says of the list
-    pub first_none : length ns ≤ r → is_in p (numbers ns) ≡ false
-    first_none h = none_in (numbers ns) (λ k l e. before k (omega (arith, length-map ns number)) (sym (at_number k (omega (arith, length-map ns number))) ∙ e))
+  found_removed : (ns : List Name) → is_in p (numbers ns) ≡ true → without_first p (numbers ns) ≡ remove (numbers ns) (first_place ns)
+  found_removed [] e = absurd (both_ways false refl e)
+  found_removed (n ∷ ns) e = ⊎_elim
+      (λ t. rw t refl)
+      (λ f. let s : suc (first_place ns) ≡ 1 + first_place ns = omega arith in rw f (ap (λ os. n.0 ∷ os) (found_removed ns (rw f at e)) ∙ ap (remove (numbers (n ∷ ns))) s))
+      (cases_Bool (eqb n.0 p))
 
-    pub first_there : r < length ns → (get_or ns r (name 0)).0 ≡ p → (is_in p (numbers ns) ≡ true) × (without_first p (numbers ns) ≡ remove (numbers ns) r)
-    first_there h e =
-        let l : r < length (numbers ns) = omega (arith, length-map ns number) in (
-          is_in_at p (numbers ns) r l (at_number r h ∙ e),
-          first_removed (numbers ns) r l (λ k g q. before k g (sym (at_number k (omega arith)) ∙ q)) (at_number r h ∙ e),
-        )
+  pub first_none : (ns : List Name) → None ≡ position (λ q. eqb q.0 p) ns → is_in p (numbers ns) ≡ false
+  first_none ns e = ⊎_elim
+      (λ t. absurd (some_none (first_place ns) (sym (e ∙ cond-true (ltb (first_place ns) (length ns)) (Some (first_place ns)) None t))))
+      (λ f. found_within ns ∙ f)
+      (cases_Bool (ltb (first_place ns) (length ns)))
+
+  pub first_there : (ns : List Name) (at : ℕ) → Some at ≡ position (λ q. eqb q.0 p) ns → (at < length (numbers ns)) × (is_in p (numbers ns) ≡ true) × (without_first p (numbers ns) ≡ remove (numbers ns) at)
+  first_there ns at e = ⊎_elim
+      (λ t.
+        let same = some_same at (first_place ns) (e ∙ cond-true (ltb (first_place ns) (length ns)) (Some (first_place ns)) None t) in
+        let there = found_within ns ∙ t in
+        (omega (arith, same, length-map ns number, ltb-true (first_place ns) (length ns) t), there, found_removed ns there ∙ ap (remove (numbers ns)) (sym same)))
+      (λ f. absurd (some_none at (e ∙ cond-false (ltb (first_place ns) (length ns)) (Some (first_place ns)) None f)))
+      (cases_Bool (ltb (first_place ns) (length ns)))
 
 pub without_out : (o : ℕ) (xs : List ℕ) → is_in o xs ≡ false → without o xs ≡ xs
 without_out o [] f = refl
