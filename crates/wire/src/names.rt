@@ -1,7 +1,8 @@
-ghost use Rattle.std.specs.Prelude.{◌≡◌, IfOk};
+ghost use Rattle.std.specs.Prelude.{◌≡◌, IfOk, Some, decimal};
 ghost use Rattle.wire.specs.Names.{home_of, number_of, named, Parts, well_formed};
 
 use crate::refusal::Refusal;
+use std::fmt;
 
 // House: a machine that takes part. The houses are counted from 0, and there are at most sixteen.
 #[derive(Clone, Copy, Debug, PartialEq, Eq, PartialOrd, Ord)]
@@ -39,7 +40,7 @@ impl Name {
         if number >= 268435456 {
             return Err(Refusal::OutOfNumbers);
         }
-        Ok(Name(number as u32 * 16 + home.0 as u32))
+        Ok(Name(number as u32 * 16 + u32::from(home.0)))
     }
 
     // The house that the object lives in.
@@ -61,5 +62,41 @@ impl Name {
         ensures { result ≡ well_formed houses self }
     {
         self.0 >= 16 && self.home().0 < houses
+    }
+}
+
+impl fmt::Display for House {
+    ghost output = { λ x. Some (decimal x.0) };
+
+    fn fmt<W: fmt::Write>(&self, f: &mut fmt::Formatter<W>) -> fmt::Result {
+        let house = self.0;
+        write!(f, "{house}")
+    }
+}
+
+impl fmt::Display for Name {
+    ghost output = { λ x. Some (decimal x.0) };
+
+    fn fmt<W: fmt::Write>(&self, f: &mut fmt::Formatter<W>) -> fmt::Result {
+        let name = self.0;
+        write!(f, "{name}")
+    }
+}
+
+impl fmt::Display for Stamp {
+    ghost output = { λ x. Some (decimal x.0) };
+
+    fn fmt<W: fmt::Write>(&self, f: &mut fmt::Formatter<W>) -> fmt::Result {
+        let stamp = self.0;
+        write!(f, "{stamp}")
+    }
+}
+
+impl fmt::Display for Census {
+    ghost output = { λ x. Some (decimal x.0) };
+
+    fn fmt<W: fmt::Write>(&self, f: &mut fmt::Formatter<W>) -> fmt::Result {
+        let census = self.0;
+        write!(f, "{census}")
     }
 }

@@ -1,5 +1,6 @@
-ghost use Rattle.std.specs.Prelude.{◌≡◌, drop, IfOk, Ok, Err, MatchResult};
-ghost use Rattle.wire.specs.Format.{decode, ask_of, give_of, word_of, telling_of, as_telling, as_answer, round_of, reply_of, complete_of, numbers, rising, follows};
+ghost use Rattle.std.specs.Prelude.{◌≡◌, drop, nat_lt, IfOk, Ok, Err, MatchResult};
+ghost use Rattle.wire.specs.Names.{house, well_formed};
+ghost use Rattle.wire.specs.Format.{checked, name_at, decode, ask_of, give_of, word_of, telling_of, as_telling, as_answer, round_of, reply_of, complete_of, numbers, rising, follows};
 ghost use Rattle.wire.specs.Laws.{ReadAs, Rises, Unique};
 
 use crate::message::{Message, Part};
@@ -19,106 +20,193 @@ pub fn read(bytes: &[u8], houses: u8) -> Result<Received<'_>, Refusal>
     ensures rises { IfOk result (λ x. Rises x.message x.objects.now) }
     ensures unique { IfOk result (λ x. Unique houses bytes.now x.message) }
 {
-    with_objects(bytes, houses)
+    Reader { bytes, houses }.received()
 }
 
-// The message with its objects beside it.
-fn with_objects(bytes: &[u8], houses: u8) -> Result<Received<'_>, Refusal>
-    ensures { MatchResult result (λ x. ReadAs houses bytes.now x.message x.objects.now) (λ e. decode houses bytes.now ≡ Err e) }
-{
-    let message = decoded(bytes, houses)?;
-    match message {
-        Message::Word {
-            from: _,
-            to: _,
-            stamp: _,
-            objects,
-        } => Ok(Received {
-            message,
-            objects: part(bytes, objects.at),
-        }),
-        _ => Ok(Received {
-            message,
-            objects: &[],
-        }),
-    }
+// Bytes that came, and among how many houses.
+#[derive(Clone, Copy)]
+struct Reader<'a> {
+    bytes: &'a [u8],
+    houses: u8,
 }
 
-// The message that these bytes are, among `houses` houses.
-fn decoded(bytes: &[u8], houses: u8) -> Result<Message, Refusal>
-    ensures { result ≡ decode houses bytes.now }
-{
-    let [first, ..] = bytes else {
-        return Err(Refusal::Malformed);
-    };
-    match *first {
-        1 => ask(bytes, houses),
-        2 => give(bytes, houses),
-        3 => word(bytes, houses),
-        4 => telling(bytes, houses),
-        5 => answer(bytes, houses),
-        6 => round(bytes),
-        7 => reply(bytes, houses),
-        8 => complete(bytes),
-        0 | 9..=255 => Err(Refusal::Malformed),
+impl<'a> Reader<'a> {
+    // The message with its objects beside it.
+    fn received(self) -> Result<Received<'a>, Refusal>
+        ensures { MatchResult result (λ x. ReadAs self.entry.houses self.entry.bytes.now x.message x.objects.now) (λ e. decode self.entry.houses self.entry.bytes.now ≡ Err e) }
+    {
+        let message = self.message()?;
+        match message {
+            Message::Word { objects, .. } => Ok(Received {
+                message,
+                objects: part(self.bytes, objects.at),
+            }),
+            _ => Ok(Received {
+                message,
+                objects: &[],
+            }),
+        }
     }
-}
 
-fn ask(bytes: &[u8], houses: u8) -> Result<Message, Refusal>
-    ensures { result ≡ ask_of houses bytes.now }
-{
-    let [_, a, b, c, d, by, to] = bytes else {
-        return Err(Refusal::Malformed);
-    };
-    let object = Name(u32::from_be_bytes([*a, *b, *c, *d]));
-    if !object.is_well_formed(houses) || *by >= houses || *to >= houses {
-        return Err(Refusal::Malformed);
+    fn message(self) -> Result<Message, Refusal>
+        ensures { result ≡ decode self.entry.houses self.entry.bytes.now }
+    {
+        let [first, ..] = self.bytes else {
+            return Err(Refusal::Malformed);
+        };
+        match *first {
+            1 => self.ask(),
+            2 => self.give(),
+            3 => self.word(),
+            4 => self.telling(),
+            5 => self.answer(),
+            6 => self.round(),
+            7 => self.reply(),
+            8 => self.complete(),
+            0 | 9..=255 => Err(Refusal::Malformed),
+        }
     }
-    Ok(Message::Ask {
-        object,
-        by: House(*by),
-        to: House(*to),
-    })
-}
 
-fn give(bytes: &[u8], houses: u8) -> Result<Message, Refusal>
-    ensures { result ≡ give_of houses bytes.now }
-{
-    let [_, a, b, c, d, to, e, f, g, h] = bytes else {
-        return Err(Refusal::Malformed);
-    };
-    let object = Name(u32::from_be_bytes([*a, *b, *c, *d]));
-    let stamp = Stamp(u32::from_be_bytes([*e, *f, *g, *h]));
-    if !object.is_well_formed(houses) || *to >= houses {
-        return Err(Refusal::Malformed);
+    // A house that takes part.
+    fn house(self, byte: u8) -> Result<House, Refusal>
+        ensures { result ≡ checked (nat_lt byte self.entry.houses) (house byte) }
+    {
+        if byte < self.houses {
+            Ok(House(byte))
+        } else {
+            Err(Refusal::Malformed)
+        }
     }
-    Ok(Message::Give {
-        object,
-        to: House(*to),
-        stamp,
-    })
-}
 
-fn word(bytes: &[u8], houses: u8) -> Result<Message, Refusal>
-    ensures { result ≡ word_of houses bytes.now }
-{
-    let [_, from, to, a, b, c, d, e, f, ..] = bytes else {
-        return Err(Refusal::Malformed);
-    };
-    let stamp = Stamp(u32::from_be_bytes([*a, *b, *c, *d]));
-    let count = u16::from_be_bytes([*e, *f]);
-    if bytes.len() != 9 + 4 * count as usize || *from >= houses || *to >= houses {
-        return Err(Refusal::Malformed);
+    // A name that an object in one of the houses can have.
+    fn name(self, bytes: [u8; 4]) -> Result<Name, Refusal>
+        ensures { result ≡ checked (well_formed self.entry.houses (name_at bytes 0)) (name_at bytes 0) }
+    {
+        let name = Name(u32::from_be_bytes(bytes));
+        if name.is_well_formed(self.houses) {
+            Ok(name)
+        } else {
+            Err(Refusal::Malformed)
+        }
     }
-    if !rises(part(bytes, 9), *to) {
-        return Err(Refusal::Malformed);
+
+    fn ask(self) -> Result<Message, Refusal>
+        ensures { result ≡ ask_of self.entry.houses self.entry.bytes.now }
+    {
+        let [_, a, b, c, d, by, to] = self.bytes else {
+            return Err(Refusal::Malformed);
+        };
+        Ok(Message::Ask {
+            object: self.name([*a, *b, *c, *d])?,
+            by: self.house(*by)?,
+            to: self.house(*to)?,
+        })
     }
-    Ok(Message::Word {
-        from: House(*from),
-        to: House(*to),
-        stamp,
-        objects: Part { at: 9, count },
-    })
+
+    fn give(self) -> Result<Message, Refusal>
+        ensures { result ≡ give_of self.entry.houses self.entry.bytes.now }
+    {
+        let [_, a, b, c, d, to, e, f, g, h] = self.bytes else {
+            return Err(Refusal::Malformed);
+        };
+        Ok(Message::Give {
+            object: self.name([*a, *b, *c, *d])?,
+            to: self.house(*to)?,
+            stamp: Stamp(u32::from_be_bytes([*e, *f, *g, *h])),
+        })
+    }
+
+    fn word(self) -> Result<Message, Refusal>
+        ensures { result ≡ word_of self.entry.houses self.entry.bytes.now }
+    {
+        let [_, from, to, a, b, c, d, e, f, ..] = self.bytes else {
+            return Err(Refusal::Malformed);
+        };
+        let count = u16::from_be_bytes([*e, *f]);
+        if self.bytes.len() != 9 + 4 * usize::from(count) || !rises(part(self.bytes, 9), *to) {
+            return Err(Refusal::Malformed);
+        }
+        Ok(Message::Word {
+            from: self.house(*from)?,
+            to: self.house(*to)?,
+            stamp: Stamp(u32::from_be_bytes([*a, *b, *c, *d])),
+            objects: Part { at: 9, count },
+        })
+    }
+
+    // What a telling and its answer both hold.
+    fn told(self) -> Result<(Census, Name, House), Refusal>
+        ensures { result ≡ telling_of self.entry.houses self.entry.bytes.now }
+    {
+        let [_, a, b, c, d, e, f, g, h, from] = self.bytes else {
+            return Err(Refusal::Malformed);
+        };
+        let census = Census(u32::from_be_bytes([*a, *b, *c, *d]));
+        Ok((census, self.name([*e, *f, *g, *h])?, self.house(*from)?))
+    }
+
+    fn telling(self) -> Result<Message, Refusal>
+        ensures { result ≡ as_telling (telling_of self.entry.houses self.entry.bytes.now) }
+    {
+        let (census, object, from) = self.told()?;
+        Ok(Message::Telling {
+            census,
+            object,
+            from,
+        })
+    }
+
+    fn answer(self) -> Result<Message, Refusal>
+        ensures { result ≡ as_answer (telling_of self.entry.houses self.entry.bytes.now) }
+    {
+        let (census, object, from) = self.told()?;
+        Ok(Message::Answer {
+            census,
+            object,
+            from,
+        })
+    }
+
+    fn round(self) -> Result<Message, Refusal>
+        ensures { result ≡ round_of self.entry.bytes.now }
+    {
+        let [_, a, b, c, d, e, f, g, h] = self.bytes else {
+            return Err(Refusal::Malformed);
+        };
+        Ok(Message::Round {
+            census: Census(u32::from_be_bytes([*a, *b, *c, *d])),
+            number: RoundNumber(u32::from_be_bytes([*e, *f, *g, *h])),
+        })
+    }
+
+    fn reply(self) -> Result<Message, Refusal>
+        ensures { result ≡ reply_of self.entry.houses self.entry.bytes.now }
+    {
+        let [_, a, b, c, d, e, f, g, h, from, calm, i, j, k, l] = self.bytes else {
+            return Err(Refusal::Malformed);
+        };
+        if *calm > 1 {
+            return Err(Refusal::Malformed);
+        }
+        Ok(Message::Reply {
+            census: Census(u32::from_be_bytes([*a, *b, *c, *d])),
+            number: RoundNumber(u32::from_be_bytes([*e, *f, *g, *h])),
+            from: self.house(*from)?,
+            calm: *calm == 1,
+            tally: Tally(u32::from_be_bytes([*i, *j, *k, *l])),
+        })
+    }
+
+    fn complete(self) -> Result<Message, Refusal>
+        ensures { result ≡ complete_of self.entry.bytes.now }
+    {
+        let [_, a, b, c, d] = self.bytes else {
+            return Err(Refusal::Malformed);
+        };
+        Ok(Message::Complete {
+            census: Census(u32::from_be_bytes([*a, *b, *c, *d])),
+        })
+    }
 }
 
 // The bytes from this place on.
@@ -132,7 +220,7 @@ fn part(bytes: &[u8], at: usize) -> &[u8]
 fn is_next(low: u32, object: u32, to: u8) -> bool
     ensures { result ≡ follows to low object }
 {
-    low < object && object % 16 == to as u32
+    low < object && object % 16 == u32::from(to)
 }
 
 // Whether the objects of a part rise and live in house `to`.
@@ -150,84 +238,4 @@ fn rises(objects: &[u8], to: u8) -> bool
         rest = more;
     }
     true
-}
-
-// What a telling and its answer both hold.
-fn telling_parts(bytes: &[u8], houses: u8) -> Result<(Census, Name, House), Refusal>
-    ensures { result ≡ telling_of houses bytes.now }
-{
-    let [_, a, b, c, d, e, f, g, h, from] = bytes else {
-        return Err(Refusal::Malformed);
-    };
-    let census = Census(u32::from_be_bytes([*a, *b, *c, *d]));
-    let object = Name(u32::from_be_bytes([*e, *f, *g, *h]));
-    if !object.is_well_formed(houses) || *from >= houses {
-        return Err(Refusal::Malformed);
-    }
-    Ok((census, object, House(*from)))
-}
-
-fn telling(bytes: &[u8], houses: u8) -> Result<Message, Refusal>
-    ensures { result ≡ as_telling (telling_of houses bytes.now) }
-{
-    let (census, object, from) = telling_parts(bytes, houses)?;
-    Ok(Message::Telling {
-        census,
-        object,
-        from,
-    })
-}
-
-fn answer(bytes: &[u8], houses: u8) -> Result<Message, Refusal>
-    ensures { result ≡ as_answer (telling_of houses bytes.now) }
-{
-    let (census, object, from) = telling_parts(bytes, houses)?;
-    Ok(Message::Answer {
-        census,
-        object,
-        from,
-    })
-}
-
-fn round(bytes: &[u8]) -> Result<Message, Refusal>
-    ensures { result ≡ round_of bytes.now }
-{
-    let [_, a, b, c, d, e, f, g, h] = bytes else {
-        return Err(Refusal::Malformed);
-    };
-    let census = Census(u32::from_be_bytes([*a, *b, *c, *d]));
-    let number = RoundNumber(u32::from_be_bytes([*e, *f, *g, *h]));
-    Ok(Message::Round { census, number })
-}
-
-fn reply(bytes: &[u8], houses: u8) -> Result<Message, Refusal>
-    ensures { result ≡ reply_of houses bytes.now }
-{
-    let [_, a, b, c, d, e, f, g, h, from, calm, i, j, k, l] = bytes else {
-        return Err(Refusal::Malformed);
-    };
-    let census = Census(u32::from_be_bytes([*a, *b, *c, *d]));
-    let number = RoundNumber(u32::from_be_bytes([*e, *f, *g, *h]));
-    let tally = Tally(u32::from_be_bytes([*i, *j, *k, *l]));
-    if *from >= houses || *calm > 1 {
-        return Err(Refusal::Malformed);
-    }
-    Ok(Message::Reply {
-        census,
-        number,
-        from: House(*from),
-        calm: *calm == 1,
-        tally,
-    })
-}
-
-fn complete(bytes: &[u8]) -> Result<Message, Refusal>
-    ensures { result ≡ complete_of bytes.now }
-{
-    let [_, a, b, c, d] = bytes else {
-        return Err(Refusal::Malformed);
-    };
-    Ok(Message::Complete {
-        census: Census(u32::from_be_bytes([*a, *b, *c, *d])),
-    })
 }

@@ -1,16 +1,19 @@
-ghost use Rattle.std.specs.Prelude.{◌≡◌, ◌+◌, ◌≤◌, true, ◌++◌, length, is_ok, if◌then◌else◌, vec_len, vec_capacity};
-ghost use Rattle.wire.specs.Format.{head_of, encode};
+ghost use Rattle.std.specs.Prelude.{◌≡◌, ◌+◌, ◌≤◌, true, [], ◌∷◌, ◌++◌, length, is_ok, if◌then◌else◌, vec_len, vec_capacity};
+ghost use Rattle.wire.specs.Format.{bytes4, head_of, encode};
 ghost use Rattle.wire.specs.Laws.{ReadsBack};
 ghost use Rattle.wire.specs.declared.message.Message.TheVariants.{Reply};
 
 use crate::message::Message;
-use crate::names::{Census, House, RoundNumber, Tally};
+use crate::names::{Census, House, Name, RoundNumber, Tally};
 use std::alloc::AllocError;
 
-fn calm_byte(calm: bool) -> u8
-    ensures { result ≡ (if calm then 1 else 0) }
+// A telling and its answer, which differ in the first byte.
+fn told(first: u8, census: Census, object: Name, from: House) -> [u8; 10]
+    ensures { result ≡ first ∷ (bytes4 census.0 ++ (bytes4 object.0 ++ (from.0 ∷ []))) }
 {
-    if calm { 1 } else { 0 }
+    let [a, b, c, d] = census.0.to_be_bytes();
+    let [e, f, g, h] = object.0.to_be_bytes();
+    [first, a, b, c, d, e, f, g, h, from.0]
 }
 
 fn reply(census: Census, number: RoundNumber, from: House, calm: bool, tally: Tally) -> [u8; 15]
@@ -30,7 +33,7 @@ fn reply(census: Census, number: RoundNumber, from: House, calm: bool, tally: Ta
         g,
         h,
         from.0,
-        calm_byte(calm),
+        u8::from(calm),
         i,
         j,
         k,
@@ -68,20 +71,12 @@ fn write_head(message: Message, out: &mut Vec<u8>) -> Result<(), AllocError>
             census,
             object,
             from,
-        } => {
-            let [a, b, c, d] = census.0.to_be_bytes();
-            let [e, f, g, h] = object.0.to_be_bytes();
-            out.extend_from_slice(&[4, a, b, c, d, e, f, g, h, from.0])
-        }
+        } => { out.extend_from_slice(&told(4, census, object, from)) }
         Message::Answer {
             census,
             object,
             from,
-        } => {
-            let [a, b, c, d] = census.0.to_be_bytes();
-            let [e, f, g, h] = object.0.to_be_bytes();
-            out.extend_from_slice(&[5, a, b, c, d, e, f, g, h, from.0])
-        }
+        } => { out.extend_from_slice(&told(5, census, object, from)) }
         Message::Round { census, number } => {
             let [a, b, c, d] = census.0.to_be_bytes();
             let [e, f, g, h] = number.0.to_be_bytes();

@@ -20,7 +20,7 @@ ascends n bs (Err e) h = tt
 pub returns : goal.returns
 returns c =
     record {
-      value = c.with_objects.ensures;
-      rises = ascends c.args.houses c.args.bytes.now c.with_objects.result c.with_objects.ensures;
-      unique = each c.args.houses c.args.bytes.now c.with_objects.result (λ k. below _ (c.type_inv.bytes k)) c.with_objects.ensures;
+      value = c.received.ensures;
+      rises = ascends c.args.houses c.args.bytes.now c.received.result c.received.ensures;
+      unique = each c.args.houses c.args.bytes.now c.received.result (λ k. below _ (c.type_inv.bytes k)) c.received.ensures;
     }
