@@ -4,7 +4,7 @@ ghost use Rattle.tables.specs.Met.{Collected};
 ghost use Rattle.tables.specs.Shown.{numbers};
 
 use crate::store::Objects;
-use tables::{close_up, mark};
+use tables::{keep_marked, mark};
 use wire::Name;
 
 impl Objects {
@@ -15,7 +15,6 @@ impl Objects {
     {
         let mut marks = [false; 1024];
         mark(&self.objects, &self.roots, listed, &mut marks);
-        let kept = close_up(&mut self.objects, &marks);
-        self.objects.truncate(kept);
+        keep_marked(&mut self.objects, &marks);
     }
 }

@@ -1,8 +1,8 @@
-ghost use Rattle.std.specs.Prelude.{◌≡◌, ◌<◌, true, IfSome, vec_len};
+ghost use Rattle.std.specs.Prelude.{◌≡◌, true};
 ghost use Rattle.tables.specs.Model.{is_in, names, present, rising};
 ghost use Rattle.tables.specs.Shown.{numbers, objects_of};
 ghost use Rattle.objects.specs.Laws.{Single};
-ghost use Rattle.objects.specs.Calls.{heap_of, held_at};
+ghost use Rattle.objects.specs.Calls.{heap_of};
 
 use crate::store::Objects;
 use tables::{Object, find};
@@ -50,17 +50,5 @@ impl Objects {
         ensures single { Single (heap_of self.now) }
     {
         &self.objects
-    }
-
-    // The place of an object that is a root and lives here.
-    pub(crate) fn held(&self, o: Name) -> Option<usize>
-        ensures value { result ≡ held_at o.0 (heap_of self.now) }
-        ensures within { IfSome result (λ at. at < vec_len self.now.objects) }
-    {
-        if self.is_root(o) {
-            find(&self.objects, o)
-        } else {
-            None
-        }
     }
 }

@@ -13,20 +13,14 @@ impl Objects {
         ensures { MatchResult result (λ t. heap_of t ≡ new_heap home.0 houses) (λ e. Unmade home.0 houses e) }
     {
         if houses > 16 || home.0 >= houses {
-            return Err(Fault::Refused(Refusal::Malformed));
+            return Err(Refusal::Malformed.into());
         }
-        let Ok(objects) = Vec::with_capacity(heap, 1024) else {
-            return Err(Fault::NoMemory);
-        };
-        let Ok(roots) = Vec::with_capacity(heap, 256) else {
-            return Err(Fault::NoMemory);
-        };
         Ok(Objects {
             home,
             houses,
             made: 0,
-            objects,
-            roots,
+            objects: Vec::with_capacity(heap, 1024)?,
+            roots: Vec::with_capacity(heap, 256)?,
         })
     }
 

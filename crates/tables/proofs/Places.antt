@@ -225,10 +225,6 @@ place_facts o xs at r e = ⊎_elim
     (λ f. absurd (some_none at (e ∙ cond-false (is_in o xs) (Some (below o xs)) None f)))
     (cases_Bool (is_in o xs))
 
-pub held_place : (b : Bool) (p : Option ℕ) (at : ℕ) → Some at ≡ cond b p None → (b ≡ true) × (Some at ≡ p)
-held_place true p at e = (refl, e)
-held_place false p at e = absurd (some_none at e)
-
 -- what the search for the first of a name says of the list
 module _ (p : ℕ) where
   abbrev first_place : List Name → ℕ

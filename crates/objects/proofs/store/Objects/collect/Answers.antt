@@ -26,17 +26,13 @@ invariant_of-self c =
     let s = c.args.self.now in
     let xs = vec_items s.objects in
     let ms = c.mark.new.marks in
-    let ws = c.close_up-kept.new.objects in
-    let r = c.close_up-kept.result in
-    let lw : length ws ≡ s.objects.len = c.close_up-kept.auto.objects ∙ c.deref_mut.ensures.len in
-    let e : vec_items c.truncate.new.self ≡ kept_by ms xs =
-    c.truncate.ensures.items ∙ ap (take r) (take_at ws (drop (length ws) s.objects.items) s.objects.len lw) ∙ c.close_up-kept.ensures.front ∙ ap (kept_by ms) c.deref_mut.ensures.value in
-    let ns : names_in (vec_items c.truncate.new.self) ≡ kept_by ms (names_in xs) = ap names_in e ∙ map_kept name_in ms xs in
+    let e : vec_items c.keep_marked.new.objects ≡ kept_by ms xs = c.keep_marked.ensures.kept in
+    let ns : names_in (vec_items c.keep_marked.new.objects) ≡ kept_by ms (names_in xs) = ap names_in e ∙ map_kept name_in ms xs in
     record {
       sixteen = s.sixteen;
       inside = s.inside;
-      few = omega (arith, c.truncate.new.self.ok.0, ap length e, length_kept ms xs, s.objects.ok.0, s.few);
-      room = omega (arith, c.truncate.ensures.capacity, s.room);
+      few = omega (arith, c.keep_marked.new.objects.ok.0, ap length e, length_kept ms xs, s.objects.ok.0, s.few);
+      room = omega (arith, c.keep_marked.ensures.capacity, s.room);
       ordered = ap rising ns ∙ rising_kept ms (names_in xs) s.ordered;
       own = ap (all_own s.home.0 s.made) ns ∙ own_kept s.home.0 s.made ms (names_in xs) s.own;
       few_roots = s.few_roots;
@@ -51,18 +47,14 @@ returns c =
     let s = c.args.self.now in
     let xs = vec_items s.objects in
     let ms = c.mark.new.marks in
-    let ws = c.close_up-kept.new.objects in
-    let r = c.close_up-kept.result in
     let from = numbers (vec_items s.roots) ++ numbers c.args.listed.now in
-    let lw : length ws ≡ s.objects.len = c.close_up-kept.auto.objects ∙ c.deref_mut.ensures.len in
-    let e : vec_items c.truncate.new.self ≡ kept_by ms xs =
-    c.truncate.ensures.items ∙ ap (take r) (take_at ws (drop (length ws) s.objects.items) s.objects.len lw) ∙ c.close_up-kept.ensures.front ∙ ap (kept_by ms) c.deref_mut.ensures.value in
+    let e : vec_items c.keep_marked.new.objects ≡ kept_by ms xs = c.keep_marked.ensures.kept in
     let marked : Marked xs from ms = subst (λ ys. Marked ys from ms) c.deref.ensures.value (subst (λ rs. Marked c.deref.result.now (numbers rs ++ numbers c.args.listed.now) ms) c.deref-2.ensures.value c.mark.ensures) in
     let lm : length ms ≡ 1024 = c.mark.auto.marks in
     let ln = length-map xs name_in in
-    let os : objects_of (vec_items c.truncate.new.self) ≡ kept_by ms (objects_of xs) = ap objects_of e ∙ map_kept object_of ms xs in
-    let ns : names (objects_of (vec_items c.truncate.new.self)) ≡ kept_by ms (names_in xs) = names_in_place (vec_items c.truncate.new.self) ∙ ap names_in e ∙ map_kept name_in ms xs in
-    let done : Collected (heap_of s) (numbers c.args.listed.now) (record { home = s.home.0; houses = s.houses; made = s.made; objects = objects_of (vec_items c.truncate.new.self); roots = numbers (vec_items s.roots) }) =
+    let os : objects_of (vec_items c.keep_marked.new.objects) ≡ kept_by ms (objects_of xs) = ap objects_of e ∙ map_kept object_of ms xs in
+    let ns : names (objects_of (vec_items c.keep_marked.new.objects)) ≡ kept_by ms (names_in xs) = names_in_place (vec_items c.keep_marked.new.objects) ∙ ap names_in e ∙ map_kept name_in ms xs in
+    let done : Collected (heap_of s) (numbers c.args.listed.now) (record { home = s.home.0; houses = s.houses; made = s.made; objects = objects_of (vec_items c.keep_marked.new.objects); roots = numbers (vec_items s.roots) }) =
     record {
       home = refl;
       houses = refl;
@@ -78,5 +70,5 @@ returns c =
     } in
     record {
       done = done;
-      lasting = lasting (heap_of s) (numbers c.args.listed.now) (record { home = s.home.0; houses = s.houses; made = s.made; objects = objects_of (vec_items c.truncate.new.self); roots = numbers (vec_items s.roots) }) done (ap rising (names_in_place xs) ∙ s.ordered) (ap rising ns ∙ rising_kept ms (names_in xs) s.ordered);
+      lasting = lasting (heap_of s) (numbers c.args.listed.now) (record { home = s.home.0; houses = s.houses; made = s.made; objects = objects_of (vec_items c.keep_marked.new.objects); roots = numbers (vec_items s.roots) }) done (ap rising (names_in_place xs) ∙ s.ordered) (ap rising ns ∙ rising_kept ms (names_in xs) s.ordered);
     }
