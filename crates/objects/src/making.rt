@@ -35,12 +35,10 @@ impl Objects {
         if self.objects.len() >= 1024 || !self.has_room() {
             return Err(Refusal::NoRoom);
         }
-        if number <= self.made as u64 {
+        if number <= u64::from(self.made) {
             return Err(Refusal::OutOfNumbers);
         }
-        let Ok(name) = Name::new(number, self.home) else {
-            return Err(Refusal::OutOfNumbers);
-        };
+        let name = Name::new(number, self.home)?;
         self.made = name.number();
         self.objects.push_reserved(Object::new(name));
         // there is room, so this does not fail
