@@ -144,7 +144,10 @@ mod tests {
             link(&mut t, 16, 48),
             load(&mut t, 16, 48),
         ];
-        assert_eq!(rt; refused, [Err(NoField), Err(NoField), Ok(()), Err(NotRoot), Ok(())]);
+        assert_eq!(rt;
+            refused,
+            [Err(NoField), Err(NoField), Ok(()), Err(NotRoot), Ok(())]
+        );
         assert!(rt; t.is_root(Name(48)));
         Ok(())
     }
@@ -159,7 +162,16 @@ mod tests {
             release(&mut t, 15),
             release(&mut t, 32),
         ];
-        assert_eq!(rt; refused, [Err(Malformed), Err(Malformed), Err(Malformed), Err(Malformed), Err(NotRoot)]);
+        assert_eq!(rt;
+            refused,
+            [
+                Err(Malformed),
+                Err(Malformed),
+                Err(Malformed),
+                Err(Malformed),
+                Err(NotRoot)
+            ]
+        );
         let far = [
             take(&mut t, 17),
             link(&mut t, 17, 16),
@@ -167,7 +179,16 @@ mod tests {
             make(&mut t, 1),
             make(&mut t, 268435456),
         ];
-        assert_eq!(rt; far, [Ok(()), Err(NotRoot), Err(Malformed), Err(OutOfNumbers), Err(OutOfNumbers)]);
+        assert_eq!(rt;
+            far,
+            [
+                Ok(()),
+                Err(NotRoot),
+                Err(Malformed),
+                Err(OutOfNumbers),
+                Err(OutOfNumbers)
+            ]
+        );
         assert_eq!(rt; names(&t), (1, Some(Name(16)), None));
         assert_eq!(rt; summary(t.roots()), (2, Some(Name(16))));
         Ok(())
@@ -183,7 +204,16 @@ mod tests {
             t.root(Name(16)),
             take(&mut t, 16),
         ];
-        assert_eq!(rt; refused, [Err(NoRoom), Err(Malformed), Err(NoRoom), Ok(()), Err(NoRoom)]);
+        assert_eq!(rt;
+            refused,
+            [
+                Err(NoRoom),
+                Err(Malformed),
+                Err(NoRoom),
+                Ok(()),
+                Err(NoRoom)
+            ]
+        );
         let done = [
             link(&mut t, 16, 32),
             load(&mut t, 16, 32),
@@ -206,7 +236,10 @@ mod tests {
             assert_eq!(rt; make(&mut t, u64::from(k)), Ok(()));
             assert_eq!(rt; release(&mut t, 16 * k), Ok(()));
         }
-        assert_eq!(rt; [make(&mut t, 1025), link(&mut t, 16, 16)], [Err(NoRoom), Err(NoRoom)]);
+        assert_eq!(rt;
+            [make(&mut t, 1025), link(&mut t, 16, 16)],
+            [Err(NoRoom), Err(NoRoom)]
+        );
         t.collect(&[Name(16384)]);
         assert_eq!(rt; names(&t), (10, Some(Name(16)), Some(Name(32))));
         assert!(rt; t.is_present(Name(16384)));

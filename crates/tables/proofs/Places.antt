@@ -1,5 +1,5 @@
 -- Places in rising lists.
-use Rattle.std.proofs.Common.{◌≡◌, ℕ, zero, suc, ◌+◌, ◌-◌, ◌<◌, ◌≤◌, Bool, true, false, cond, eqb, ltb, List, [], ◌∷◌, map, length, get_or, is_some, Some, None, Option, IfSome, Bor, sym, refl, ap, ◌∙◌, subst, ⊎_elim, arith}
+use Rattle.std.proofs.Common.{◌≡◌, ℕ, zero, suc, ◌+◌, ◌-◌, ◌<◌, ◌≤◌, true, false, cond, eqb, ltb, List, [], ◌∷◌, map, length, get_or, is_some, Some, None, Option, IfSome, Bor, sym, refl, ap, ◌∙◌, subst, ⊎_elim, arith}
 use Rattle.std.proofs.lemmas.Bool.{ltb-true, ltb-false, lt-ltb, le-ltb, and_parts, cond-true, cond-false, cases_lt, eq-eqb, ne_eqb, cases_eq, eqb-true, or_left, or_right, or_from, or_cases, or_parts, and_from, cases_Bool, both_ways, cond_both, eqb-false}
 use Rattle.std.proofs.lemmas.List.{get_or-map, length-map}
 use Rattle.std.proofs.lemmas.List.Sorted.{IsPartitionedBy-ltb}
@@ -9,7 +9,6 @@ use Rattle.std.specs.List.Sorted.{IsPartitionedBy, IsPartitionPoint}
 use Rattle.tables.specs.declared.object.Object.{Object}
 use Rattle.tables.specs.Shown.{objects_of, names_in, number, numbers}
 use Rattle.wire.specs.declared.names.Name.{Name}
-use Rattle.wire.specs.Names.{name}
 use Rattle.tables.specs.Model.{below, above, rising, is_in, place_of, names, added, without, without_first}
 
 pub above_at : (x : ℕ) (xs : List ℕ) (k : ℕ) → above x xs ≡ true → k < length xs → x < get_or xs k 0
@@ -75,13 +74,13 @@ module _ {X : Type 0} (f : X → ℕ) (o : ℕ) where
       let ns = map f (x ∷ xs) in
       let len = length-map (x ∷ xs) f in
       let up : below o ns ≤ i = ⊎_elim
-          (λ (h : i < length (x ∷ xs)). below_more o ns i r (omega arith) (omega (arith, at_map (x ∷ xs) i x h, ltb-false (f (get_or (x ∷ xs) i x)) o (p.1 i x (omega arith) h))))
-          (λ (h : length (x ∷ xs) ≤ i). omega (arith, below_within o ns))
-          (cases_lt i (length (x ∷ xs))) in
+      (λ (h : i < length (x ∷ xs)). below_more o ns i r (omega arith) (omega (arith, at_map (x ∷ xs) i x h, ltb-false (f (get_or (x ∷ xs) i x)) o (p.1 i x (omega arith) h))))
+      (λ (h : length (x ∷ xs) ≤ i). omega (arith, below_within o ns))
+      (cases_lt i (length (x ∷ xs))) in
       let down : i ≤ below o ns = ⊎_elim
-          (λ (h : 0 < i). let b = below_less o ns (i - 1) r (omega arith) (omega (arith, at_map (x ∷ xs) (i - 1) x (omega arith), ltb-true (f (get_or (x ∷ xs) (i - 1) x)) o (p.0 (i - 1) x (omega arith) (omega arith)))) in omega arith)
-          (λ (h : i ≤ 0). omega arith)
-          (cases_lt 0 i) in
+      (λ (h : 0 < i). let b = below_less o ns (i - 1) r (omega arith) (omega (arith, at_map (x ∷ xs) (i - 1) x (omega arith), ltb-true (f (get_or (x ∷ xs) (i - 1) x)) o (p.0 (i - 1) x (omega arith) (omega arith)))) in omega arith)
+      (λ (h : i ≤ 0). omega arith)
+      (cases_lt 0 i) in
       omega arith
 
 pub is_in_at : (o : ℕ) (xs : List ℕ) (k : ℕ) → k < length xs → get_or xs k 0 ≡ o → is_in o xs ≡ true
@@ -259,9 +258,9 @@ module _ (p : ℕ) where
   pub first_there : (ns : List Name) (at : ℕ) → Some at ≡ position (λ q. eqb q.0 p) ns → (at < length (numbers ns)) × (is_in p (numbers ns) ≡ true) × (without_first p (numbers ns) ≡ remove (numbers ns) at)
   first_there ns at e = ⊎_elim
       (λ t.
-        let same = some_same at (first_place ns) (e ∙ cond-true (ltb (first_place ns) (length ns)) (Some (first_place ns)) None t) in
-        let there = found_within ns ∙ t in
-        (omega (arith, same, length-map ns number, ltb-true (first_place ns) (length ns) t), there, found_removed ns there ∙ ap (remove (numbers ns)) (sym same)))
+      let same = some_same at (first_place ns) (e ∙ cond-true (ltb (first_place ns) (length ns)) (Some (first_place ns)) None t) in
+      let there = found_within ns ∙ t in
+      (omega (arith, same, length-map ns number, ltb-true (first_place ns) (length ns) t), there, found_removed ns there ∙ ap (remove (numbers ns)) (sym same)))
       (λ f. absurd (some_none at (e ∙ cond-false (ltb (first_place ns) (length ns)) (Some (first_place ns)) None f)))
       (cases_Bool (ltb (first_place ns) (length ns)))
 

@@ -22,7 +22,7 @@ impl Which {
     }
 }
 
-// Puts those of the names that are looked for into a rising table.
+// Puts those of the names that are looked for into a rising table, a plain Vec, since that is what is handed on.
 pub fn gather(out: &mut Vec<Name>, names: &[Name], which: Which) -> Result<(), AllocError>
     requires { rising (numbers out.old.items) ≡ true }
     ensures { OnOk result (numbers out.new.items ≡ gathered which (numbers names.now) (numbers out.old.items)) }

@@ -1,4 +1,4 @@
-use Rattle.std.proofs.Common.{ap, ◌∙◌, ◌≡◌, rules, arith, vec_len, length}
+use Rattle.std.proofs.Common.{ap, ◌∙◌, rules, arith, length}
 use Rattle.tables.specs.Marks.{kept_by}
 use Rattle.tables.proofs.Edits.{kept_turns}
 use Rattle.tables.proofs.closing.keep_marked.Goals as goal

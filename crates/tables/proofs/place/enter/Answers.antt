@@ -1,4 +1,4 @@
-use Rattle.std.proofs.Common.{◌≡◌, true, false, get_or, length, ltb, IfSome, sym, subst, ap, ◌∙◌, arith}
+use Rattle.std.proofs.Common.{◌≡◌, false, get_or, length, ltb, IfSome, sym, subst, ap, ◌∙◌, arith}
 use Rattle.std.specs.List.{insert}
 use Rattle.std.proofs.lemmas.Bool.{not-true, not-false}
 use Rattle.std.proofs.lemmas.List.{length-map}
@@ -24,7 +24,7 @@ returns-in_ok-insert-clause-items c =
     let look = c.get.ensures.lookup in
     let same = c.deref-2.ensures.value in
     let out : is_in o ns ≡ false = is_in_none o ns c.requires (λ l f.
-        unseen xs at _ c.get.result (look.0 ∙ ap (λ ys. ltb at (length ys)) same) (subst (λ ys. IfSome c.get.result (λ x. x.now ≡ get_or ys at x.now)) same look.1) (not-true _ (sym c.if-ne.ensures)) (omega (arith, l, e, length-map xs number)) (ap (λ k. get_or ns k 0) e ∙ f)) in
+    unseen xs at _ c.get.result (look.0 ∙ ap (λ ys. ltb at (length ys)) same) (subst (λ ys. IfSome c.get.result (λ x. x.now ≡ get_or ys at x.now)) same look.1) (not-true _ (sym c.if-ne.ensures)) (omega (arith, l, e, length-map xs number)) (ap (λ k. get_or ns k 0) e ∙ f)) in
     ap numbers c.in_ok-insert.ensures.items ∙ map_inserted number xs at c.args.o ∙ ap (λ k. insert ns k o) e ∙ added_out o ns out
 
 pub returns-else-ne-clause-items : goal.returns-else-ne-clause-items

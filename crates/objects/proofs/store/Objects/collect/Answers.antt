@@ -1,4 +1,4 @@
-use Rattle.std.proofs.Common.{◌≡◌, ◌++◌, length, take, drop, vec_items, sym, refl, ap, ◌∙◌, subst, arith}
+use Rattle.std.proofs.Common.{◌≡◌, ◌++◌, length, take, drop, vec_items, sym, refl, ap, ◌∙◌, subst, arith, rules}
 use Rattle.std.proofs.lemmas.List.{length-map, take_at}
 use Rattle.tables.specs.Model.{rising, all_own, names, is_in, fields_well}
 use Rattle.tables.specs.Marks.{kept_by, Marked}
@@ -8,24 +8,15 @@ use Rattle.objects.specs.Calls.{heap_of}
 use Rattle.tables.proofs.Well.{kept_well}
 use Rattle.tables.proofs.Places.{names_in_place}
 use Rattle.tables.proofs.Reach.{place_present}
-use Rattle.objects.proofs.Kept.{clear_all, map_kept, length_kept, rising_kept, own_kept, some_kept, kept_why, kept_in_place}
+use Rattle.objects.proofs.Kept.{map_kept, length_kept, rising_kept, own_kept, some_kept, kept_why, kept_in_place}
 use Rattle.objects.proofs.Laws.{lasting}
 use Rattle.objects.proofs.store.Objects.collect.Goals as goal
-
-pub mark-requires : goal.mark-requires
-mark-requires c =
-    let s = c.args.self.now in
-    record {
-      ordered = ap (λ xs. rising (names_in xs)) c.deref.ensures.value ∙ s.ordered;
-      room = omega (arith, c.deref.ensures.len, s.few);
-      clear = λ k. clear_all 1024 k;
-    }
 
 pub invariant_of-self : goal.invariant_of-self
 invariant_of-self c =
     let s = c.args.self.now in
     let xs = vec_items s.objects in
-    let ms = c.mark.new.marks in
+    let ms = c.met-marks.result in
     let e : vec_items c.keep_marked.new.objects ≡ kept_by ms xs = c.keep_marked.ensures.kept in
     let ns : names_in (vec_items c.keep_marked.new.objects) ≡ kept_by ms (names_in xs) = ap names_in e ∙ map_kept name_in ms xs in
     record {
@@ -46,11 +37,11 @@ pub returns : goal.returns
 returns c =
     let s = c.args.self.now in
     let xs = vec_items s.objects in
-    let ms = c.mark.new.marks in
+    let ms = c.met-marks.result in
     let from = numbers (vec_items s.roots) ++ numbers c.args.listed.now in
     let e : vec_items c.keep_marked.new.objects ≡ kept_by ms xs = c.keep_marked.ensures.kept in
-    let marked : Marked xs from ms = subst (λ ys. Marked ys from ms) c.deref.ensures.value (subst (λ rs. Marked c.deref.result.now (numbers rs ++ numbers c.args.listed.now) ms) c.deref-2.ensures.value c.mark.ensures) in
-    let lm : length ms ≡ 1024 = c.mark.auto.marks in
+    let marked : Marked xs from ms = c.met-marks.ensures in
+    let lm : length ms ≡ 1024 = search rules in
     let ln = length-map xs name_in in
     let os : objects_of (vec_items c.keep_marked.new.objects) ≡ kept_by ms (objects_of xs) = ap objects_of e ∙ map_kept object_of ms xs in
     let ns : names (objects_of (vec_items c.keep_marked.new.objects)) ≡ kept_by ms (names_in xs) = names_in_place (vec_items c.keep_marked.new.objects) ∙ ap names_in e ∙ map_kept name_in ms xs in

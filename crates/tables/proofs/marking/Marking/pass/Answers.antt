@@ -1,4 +1,4 @@
-use Rattle.std.proofs.Common.{◌≤◌, ◌≡◌, false, ltb, [], get_or, refl, sym, ap, ◌∙◌, arith, rules}
+use Rattle.std.proofs.Common.{◌≤◌, ◌≡◌, false, ltb, [], get_or, refl, sym, ap, ◌∙◌, arith}
 use Rattle.std.proofs.lemmas.List.{get_or-map}
 use Rattle.std.proofs.lemmas.Bool.{cond-true, cond-false, le-ltb}
 use Rattle.tables.specs.Marks.{count, fields_in, field_lists, noted_all}
@@ -31,14 +31,14 @@ loop-i-preserved c =
       added : c.if-self-i.added ≡ ltb (count ms) (count after.marks.now);
     } = elim c.if-self-i.branch [
       | then-self-i w ↦ (
-        let fs : numbers w.fields.result.now ≡ get_or fss i [] = w.fields.ensures ∙ sym (get_or-map fields_in xs i x [] c.loop-i-test.true ∙ ap fields_in (sym c.index-objects-i.is)) in
-        record {
-          kept = ap (λ t. t.objects) w.self-is ∙ w.spread.ensures.kept ∙ inv.kept;
-          same_reference = ap (λ t. t.marks.ghost_name) w.self-is ∙ w.spread.ensures.same_reference ∙ inv.same_reference;
-          grown = ap (λ t. t.marks.now) w.self-is ∙ w.spread.ensures.after ∙ ap (λ o. noted_all (numbers w.fields.result.now) (names_in o.now) ms) inv.kept ∙ ap (λ ps. noted_all ps ns ms) fs
-              ∙ sym (cond-true (get_or ms i false) (noted_all (get_or fss i []) ns ms) ms w.if-self-i.true);
-          added = w.added-is ∙ w.spread.ensures.added ∙ ap (λ t. ltb (count ms) (count t.marks.now)) (sym w.self-is);
-        })
+          let fs : numbers w.fields.result.now ≡ get_or fss i [] = w.fields.ensures ∙ sym (get_or-map fields_in xs i x [] c.loop-i-test.true ∙ ap fields_in (sym c.index-objects-i.is)) in
+          record {
+            kept = ap (λ t. t.objects) w.self-is ∙ w.spread.ensures.kept ∙ inv.kept;
+            same_reference = ap (λ t. t.marks.ghost_name) w.self-is ∙ w.spread.ensures.same_reference ∙ inv.same_reference;
+            grown = ap (λ t. t.marks.now) w.self-is ∙ w.spread.ensures.after ∙ ap (λ o. noted_all (numbers w.fields.result.now) (names_in o.now) ms) inv.kept ∙ ap (λ ps. noted_all ps ns ms) fs
+                ∙ sym (cond-true (get_or ms i false) (noted_all (get_or fss i []) ns ms) ms w.if-self-i.true);
+            added = w.added-is ∙ w.spread.ensures.added ∙ ap (λ t. ltb (count ms) (count t.marks.now)) (sym w.self-is);
+          })
       | else-self-i w ↦ record {
         kept = ap (λ t. t.objects) w.self-is ∙ inv.kept;
         same_reference = ap (λ t. t.marks.ghost_name) w.self-is ∙ inv.same_reference;
