@@ -1,5 +1,5 @@
-use Rattle.std.proofs.Common.{◌≡◌, ◌++◌, length, take, drop, vec_items, sym, refl, ap, ◌∙◌, subst, arith, rules}
-use Rattle.std.proofs.lemmas.List.{length-map, take_at}
+use Rattle.std.proofs.Common.{◌≡◌, ◌++◌, length, vec_items, sym, refl, ap, ◌∙◌, subst, arith, rules}
+use Rattle.std.proofs.lemmas.List.{length-map}
 use Rattle.tables.specs.Model.{rising, all_own, names, is_in, fields_well}
 use Rattle.tables.specs.Marks.{kept_by, Marked}
 use Rattle.tables.specs.Met.{Some, Met, Collected}

@@ -1,11 +1,10 @@
-use Rattle.std.proofs.Common.{◌++◌, vec_items, refl, ap, ◌∙◌, subst, arith}
+use Rattle.std.proofs.Common.{◌++◌, vec_items, refl}
 use Rattle.std.proofs.lemmas.Result.{IfOk-weaker}
-use Rattle.tables.specs.Model.{rising}
 use Rattle.tables.specs.Marks.{Marked}
 use Rattle.tables.specs.Met.{Lists, FarInUse}
 use Rattle.tables.specs.Gathered.{Found}
 use Rattle.tables.specs.declared.which.Which.TheVariants.{NotOf}
-use Rattle.tables.specs.Shown.{numbers, names_in}
+use Rattle.tables.specs.Shown.{numbers}
 use Rattle.objects.specs.Calls.{heap_of}
 use Rattle.objects.specs.Laws.{Sole, Well}
 use Rattle.objects.proofs.Laws.{sole, met_well}
