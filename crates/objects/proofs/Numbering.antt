@@ -20,6 +20,9 @@ err_ok n e q = let z : ◌≡◌ {A = ℕ} 0 1 = cc in omega arith
 ok_same : (m n : Name) → ◌≡◌ {A = Result Name Refusal} (Ok m) (Ok n) → m ≡ n
 ok_same m n q = cc
 
+err_same : (d e : Refusal) → ◌≡◌ {A = Result Name Refusal} (Err d) (Err e) → d ≡ e
+err_same d e q = cc
+
 module _ (k : ℕ) (h : House) where
   bad : Bool
   bad = eqb k 0 || leb 16 h.0
@@ -34,12 +37,12 @@ module _ (k : ℕ) (h : House) where
       (cases_Bool (leb 268435456 k)))
       (cases_Bool (eqb k 0 || leb 16 h.0))
 
-  pub named_err : (d : Refusal) → (k ≡ 0 → ⊥) → h.0 < 16 → Err d ≡ named k h → 268435456 ≤ k
+  pub named_err : (d : Refusal) → (k ≡ 0 → ⊥) → h.0 < 16 → Err d ≡ named k h → (268435456 ≤ k) × (d ≡ OutOfNumbers)
   named_err d z l e =
       let f : (eqb k 0 || leb 16 h.0) ≡ false = or_from (eqb k 0) (leb 16 h.0) (ne_eqb k 0 z) (lt-leb 16 h.0 l) in
       let e2 : Err d ≡ cond (leb 268435456 k) (Err OutOfNumbers) (Ok (name (k * 16 + h.0))) = e ∙ cond-false (eqb k 0 || leb 16 h.0) (Err Malformed) (cond (leb 268435456 k) (Err OutOfNumbers) (Ok (name (k * 16 + h.0)))) f in
       ⊎_elim
-      (λ t. leb-true 268435456 k t)
+      (λ t. (leb-true 268435456 k t, err_same d OutOfNumbers (e2 ∙ cond-true (leb 268435456 k) (Err OutOfNumbers) (Ok (name (k * 16 + h.0))) t)))
       (λ g. absurd (err_ok (name (k * 16 + h.0)) d (e2 ∙ cond-false (leb 268435456 k) (Err OutOfNumbers) (Ok (name (k * 16 + h.0))) g)))
       (cases_Bool (leb 268435456 k))
 

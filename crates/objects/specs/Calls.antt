@@ -1,5 +1,5 @@
 -- What each call answers, and what it leaves.
-use Rattle.std.specs.Prelude.{◌≡◌, ℕ, ◌+◌, ◌*◌, Bool, true, false, cond, not, ◌&&◌, ◌||◌, List, [], ◌∷◌, ◌++◌, length, is_ok, None, Ok, Err, vec_items, Option, Result, ◌==◌, nat_le, nat_lt}
+use Rattle.std.specs.Prelude.{◌≡◌, ℕ, ◌+◌, ◌*◌, Bool, true, false, cond, not, ◌&&◌, ◌||◌, List, [], ◌∷◌, ◌++◌, length, is_ok, Ok, Err, vec_items, Result, ◌==◌, nat_le, nat_lt}
 use Rattle.wire.specs.declared.names.Name.{Name}
 use Rattle.wire.specs.declared.refusal.Refusal.{Refusal}
 use Rattle.wire.specs.declared.refusal.Refusal.TheVariants.{Malformed, NotRoot, NoField, NoRoom, OutOfNumbers}
@@ -7,7 +7,7 @@ use Rattle.wire.specs.Names.{well_formed, name}
 use Rattle.objects.specs.declared.store.Objects.{Objects}
 use Rattle.objects.specs.declared.fault.Fault.{Fault}
 use Rattle.objects.specs.declared.fault.Fault.TheVariants.{Refused, NoMemory}
-use Rattle.tables.specs.Model.{Heap, Object, is_in, present, fields_of, changed, without, without_first, added, names, place_of, bare}
+use Rattle.tables.specs.Model.{Heap, Object, is_in, present, fields_of, changed, without, without_first, added, names, below, bare}
 use Rattle.tables.specs.Shown.{objects_of, numbers}
 
 -- the tables as lists
@@ -35,12 +35,13 @@ unless_refused r new old = cond (is_ok r) new old
 abbrev pub malformed : ℕ → Heap → Bool
 malformed o h = not (well_formed h.houses (name o))
 
--- the place of an object that is a root and lives here
-abbrev pub held_at : ℕ → Heap → Option ℕ
-held_at o h = cond (is_in o h.roots) (place_of o (names h.objects)) None
-
+-- a root that lives here
 abbrev pub held : ℕ → Heap → Bool
 held o h = is_in o h.roots && present o h.objects
+
+-- the place of o, which must be a root that lives here, where p can be a name too
+abbrev pub held_answer : ℕ → ℕ → Heap → Result ℕ Refusal
+held_answer o p h = refuse_if (malformed o h || malformed p h) Malformed (refuse_if (not (held o h)) NotRoot (Ok (below o (names h.objects))))
 
 -- there is room for one more root
 abbrev pub roomy : Heap → Bool

@@ -1,31 +1,39 @@
-ghost use Rattle.std.specs.Prelude.{◌≡◌, OnOk};
+ghost use Rattle.std.specs.Prelude.{◌≡◌, ◌<◌, IfOk, OnOk, vec_len};
 ghost use Rattle.objects.specs.Laws.{Frees};
-ghost use Rattle.objects.specs.Calls.{heap_of, link_answer, after_link, unlink_answer, after_unlink, load_answer, after_load, drop_answer, after_drop, keep_answer, after_keep, take_answer, after_take};
+ghost use Rattle.objects.specs.Calls.{heap_of, held_answer, link_answer, after_link, unlink_answer, after_unlink, load_answer, after_load, drop_answer, after_drop, keep_answer, after_keep, take_answer, after_take};
 
 use crate::store::Objects;
 use tables::{find, first};
 use wire::{Name, Refusal};
 
 impl Objects {
+    // The place of `o`, which must be a root that lives here, where `p` can be a name too.
+    fn held(&self, o: Name, p: Name) -> Result<usize, Refusal>
+        ensures value { result ≡ held_answer o.0 p.0 (heap_of self.now) }
+        ensures within { IfOk result (λ at. at < vec_len self.now.objects) }
+    {
+        if !o.is_well_formed(self.houses) || !p.is_well_formed(self.houses) {
+            return Err(Refusal::Malformed);
+        }
+        if !self.is_root(o) {
+            return Err(Refusal::NotRoot);
+        }
+        find(&self.objects, o).ok_or(Refusal::NotRoot)
+    }
+
     // Puts `p` at the end of the fields of `o`.
     pub fn link(&mut self, o: Name, p: Name) -> Result<(), Refusal>
         ensures value { result ≡ link_answer o.0 p.0 (heap_of self.old) }
         ensures after { heap_of self.new ≡ after_link o.0 p.0 (heap_of self.old) }
     {
-        if !o.is_well_formed(self.houses) || !p.is_well_formed(self.houses) {
-            return Err(Refusal::Malformed);
-        }
-        let Some(at) = self.held(o) else {
-            return Err(Refusal::NotRoot);
-        };
+        let at = self.held(o, p)?;
         if !self.is_root(p) {
             return Err(Refusal::NotRoot);
         }
-        let object = self.objects[at];
-        if object.count() >= 8 {
+        if self.objects[at].is_full() {
             return Err(Refusal::NoRoom);
         }
-        self.put(at, object.linked(p));
+        self.objects[at].link(p);
         Ok(())
     }
 
@@ -34,18 +42,9 @@ impl Objects {
         ensures value { result ≡ unlink_answer o.0 p.0 (heap_of self.old) }
         ensures after { heap_of self.new ≡ after_unlink o.0 p.0 (heap_of self.old) }
     {
-        if !o.is_well_formed(self.houses) || !p.is_well_formed(self.houses) {
-            return Err(Refusal::Malformed);
-        }
-        let Some(at) = self.held(o) else {
-            return Err(Refusal::NotRoot);
-        };
-        let object = self.objects[at];
-        let place = first(object.fields(), p);
-        if place >= object.count() {
-            return Err(Refusal::NoField);
-        }
-        self.put(at, object.unlinked(place));
+        let at = self.held(o, p)?;
+        let place = first(self.objects[at].fields(), p).ok_or(Refusal::NoField)?;
+        self.objects[at].unlink(place);
         Ok(())
     }
 
@@ -54,16 +53,8 @@ impl Objects {
         ensures value { result ≡ load_answer o.0 p.0 (heap_of self.old) }
         ensures after { heap_of self.new ≡ after_load o.0 p.0 (heap_of self.old) }
     {
-        if !o.is_well_formed(self.houses) || !p.is_well_formed(self.houses) {
-            return Err(Refusal::Malformed);
-        }
-        let Some(at) = self.held(o) else {
-            return Err(Refusal::NotRoot);
-        };
-        let object = self.objects[at];
-        if first(object.fields(), p) >= object.count() {
-            return Err(Refusal::NoField);
-        }
+        let at = self.held(o, p)?;
+        first(self.objects[at].fields(), p).ok_or(Refusal::NoField)?;
         self.add_root(p)
     }
 
@@ -76,9 +67,7 @@ impl Objects {
         if !o.is_well_formed(self.houses) {
             return Err(Refusal::Malformed);
         }
-        let Some(at) = find(&self.roots, o) else {
-            return Err(Refusal::NotRoot);
-        };
+        let at = find(&self.roots, o).ok_or(Refusal::NotRoot)?;
         self.roots.remove(at);
         Ok(())
     }

@@ -4,7 +4,7 @@ ghost use Rattle.tables.specs.Met.{Collected};
 ghost use Rattle.tables.specs.Shown.{numbers};
 
 use crate::store::Objects;
-use tables::{close_up, mark};
+use tables::keep_marked;
 use wire::Name;
 
 impl Objects {
@@ -13,9 +13,7 @@ impl Objects {
         ensures done { Collected (heap_of self.old) (numbers listed.now) (heap_of self.new) }
         ensures lasting { Lasting (heap_of self.old) (numbers listed.now) (heap_of self.new) }
     {
-        let mut marks = [false; 1024];
-        mark(&self.objects, &self.roots, listed, &mut marks);
-        let kept = close_up(&mut self.objects, &marks);
-        self.objects.truncate(kept);
+        let marks = self.met(listed);
+        keep_marked(&mut self.objects, &marks);
     }
 }

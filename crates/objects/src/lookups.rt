@@ -1,11 +1,12 @@
-ghost use Rattle.std.specs.Prelude.{◌≡◌, ◌<◌, true, IfSome, vec_len};
+ghost use Rattle.std.specs.Prelude.{◌≡◌, true, ◌++◌};
+ghost use Rattle.tables.specs.Marks.{Marked};
 ghost use Rattle.tables.specs.Model.{is_in, names, present, rising};
 ghost use Rattle.tables.specs.Shown.{numbers, objects_of};
 ghost use Rattle.objects.specs.Laws.{Single};
-ghost use Rattle.objects.specs.Calls.{heap_of, held_at};
+ghost use Rattle.objects.specs.Calls.{heap_of};
 
 use crate::store::Objects;
-use tables::{Object, find};
+use tables::{Object, find, mark};
 use wire::{House, Name};
 
 impl Objects {
@@ -52,15 +53,12 @@ impl Objects {
         &self.objects
     }
 
-    // The place of an object that is a root and lives here.
-    pub(crate) fn held(&self, o: Name) -> Option<usize>
-        ensures value { result ≡ held_at o.0 (heap_of self.now) }
-        ensures within { IfSome result (λ at. at < vec_len self.now.objects) }
+    // Marks on the objects that are met from the roots and the given names.
+    pub(crate) fn met(&self, from: &[Name]) -> [bool; 1024]
+        ensures { Marked self.now.objects.items ((heap_of self.now).roots ++ numbers from.now) result }
     {
-        if self.is_root(o) {
-            find(&self.objects, o)
-        } else {
-            None
-        }
+        let mut marks = [false; 1024];
+        mark(&self.objects, &self.roots, from, &mut marks);
+        marks
     }
 }

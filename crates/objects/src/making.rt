@@ -13,20 +13,14 @@ impl Objects {
         ensures { MatchResult result (λ t. heap_of t ≡ new_heap home.0 houses) (λ e. Unmade home.0 houses e) }
     {
         if houses > 16 || home.0 >= houses {
-            return Err(Fault::Refused(Refusal::Malformed));
+            return Err(Refusal::Malformed.into());
         }
-        let Ok(objects) = Vec::with_capacity(heap, 1024) else {
-            return Err(Fault::NoMemory);
-        };
-        let Ok(roots) = Vec::with_capacity(heap, 256) else {
-            return Err(Fault::NoMemory);
-        };
         Ok(Objects {
             home,
             houses,
             made: 0,
-            objects,
-            roots,
+            objects: Vec::with_capacity(heap, 1024)?,
+            roots: Vec::with_capacity(heap, 256)?,
         })
     }
 
@@ -41,12 +35,10 @@ impl Objects {
         if self.objects.len() >= 1024 || !self.has_room() {
             return Err(Refusal::NoRoom);
         }
-        if number <= self.made as u64 {
+        if number <= u64::from(self.made) {
             return Err(Refusal::OutOfNumbers);
         }
-        let Ok(name) = Name::new(number, self.home) else {
-            return Err(Refusal::OutOfNumbers);
-        };
+        let name = Name::new(number, self.home)?;
         self.made = name.number();
         self.objects.push_reserved(Object::new(name));
         // there is room, so this does not fail

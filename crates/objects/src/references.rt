@@ -7,7 +7,7 @@ ghost use Rattle.tables.specs.Shown.{numbers};
 
 use crate::store::Objects;
 use std::alloc::{AllocError, Global};
-use tables::{Which, gather, gather_fields, mark};
+use tables::{Which, gather, gather_fields};
 use wire::{House, Name};
 
 impl Objects {
@@ -35,9 +35,7 @@ impl Objects {
         ensures well { IfOk result (λ v. Well (heap_of self.now) (numbers from.now) → Well (heap_of self.now) (numbers v.items)) }
         ensures sole { IfOk result (λ v. Sole (numbers v.items) (FarInUse (heap_of self.now) (numbers from.now))) }
     {
-        let mut marks = [false; 1024];
-        mark(&self.objects, &self.roots, from, &mut marks);
-        self.references(heap, from, &marks, Which::NotOf(self.home))
+        self.references(heap, from, &self.met(from), Which::NotOf(self.home))
     }
 
     // The names of a house's objects that are roots or in fields here, each once, rising.
@@ -46,7 +44,6 @@ impl Objects {
         ensures well { IfOk result (λ v. Well (heap_of self.now) (numbers v.items)) }
         ensures sole { IfOk result (λ v. Sole (numbers v.items) (Refers (heap_of self.now) house.0)) }
     {
-        let marks = [true; 1024];
-        self.references(heap, &[], &marks, Which::Of(house))
+        self.references(heap, &[], &[true; 1024], Which::Of(house))
     }
 }

@@ -1,15 +1,15 @@
 -- Names put into rising lists.
-use Rattle.std.proofs.Common.{◌≡◌, ℕ, ◌+◌, ◌<◌, Bool, true, false, cond, eqb, ltb, ◌⊎◌, List, [], ◌∷◌, ◌++◌, length, get_or, drop, sym, refl, ap, ◌∙◌, subst, inl, inr, ⊎_elim, add-one}
-use Rattle.std.proofs.lemmas.List.{drop_more, drop-map}
+use Rattle.std.proofs.Common.{◌≡◌, ℕ, ◌+◌, ◌<◌, Bool, true, false, cond, eqb, ltb, ◌⊎◌, List, [], ◌∷◌, ◌++◌, length, get_or, drop, sym, refl, ap, ◌∙◌, subst, inl, inr, ⊎_elim}
+use Rattle.std.proofs.lemmas.List.{drop_more}
 use Rattle.wire.specs.declared.names.Name.{Name}
 use Rattle.wire.specs.Names.{name}
 use Rattle.tables.specs.declared.object.Object.{Object}
 use Rattle.tables.specs.Marks.{kept_by}
 use Rattle.tables.specs.Met.{everywhere}
 use Rattle.tables.specs.Shown.{numbers, object_of, objects_of}
-use Rattle.tables.proofs.Edits.{kept_skip}
-use Rattle.std.proofs.lemmas.Bool.{or_cases, or_left, or_right, cond-true, cond_both, both_ways, eqb-true, eq-eqb}
+use Rattle.std.proofs.lemmas.Bool.{or_cases, or_left, or_right, cond-true, cond-false, cond_both, both_ways, eqb-true, eq-eqb}
 use Rattle.tables.specs.declared.which.Which.{Which}
+use Rattle.tables.specs.Model as model
 use Rattle.tables.specs.Model.{is_in, added, rising}
 use Rattle.tables.specs.Gathered.{wanted, gathered}
 use Rattle.tables.proofs.Places.{rising_added}
@@ -112,18 +112,24 @@ module _ (w : Which) where
     Left k ns = all ≡ gathered w (everywhere (kept_by (drop k ms) (objects_of (drop k xs)))) ns
 
     -- one turn of the loop over objects
-    pub fields_turn_yes : (x : Object) → i < length ms → i < length xs → x ≡ get_or xs i x → get_or ms i false ≡ true → new ≡ gathered w (object_of x).fields os → Left i os → Left (i + 1) new
-    fields_turn_yes x lm lx e t g inv =
-        let rest = kept_by (drop (i + 1) ms) (objects_of (drop (i + 1) xs)) in
-        let d : drop i xs ≡ x ∷ drop (i + 1) xs = drop_more xs i x lx ∙ ap (λ y. y ∷ drop (i + 1) xs) (sym e) in
-        let k : kept_by (drop i ms) (objects_of (drop i xs)) ≡ object_of x ∷ rest =
-        ap (λ l. kept_by (drop i ms) (objects_of l)) d ∙ ap (λ m. kept_by m (object_of x ∷ objects_of (drop (i + 1) xs))) (drop_more ms i false lm) ∙ cond-true (get_or ms i false) (object_of x ∷ rest) rest t in
-        inv ∙ ap (λ l. gathered w (everywhere l) os) k ∙ gathered_append (object_of x).fields (everywhere rest) os ∙ ap (gathered w (everywhere rest)) (sym g)
+    module _ (x : Object) (lm : i < length ms) (lx : i < length xs) (e : x ≡ get_or xs i x) where
+      rest : List model.Object
+      rest = kept_by (drop (i + 1) ms) (objects_of (drop (i + 1) xs))
 
-    pub fields_turn_no : get_or ms i false ≡ false → new ≡ os → Left i os → Left (i + 1) new
-    fields_turn_no f g inv =
-        inv ∙ ap (λ l. gathered w (everywhere (kept_by (drop i ms) l)) os) (sym (drop-map object_of i xs))
-        ∙ ap (λ l. gathered w (everywhere l) os) (kept_skip ms (objects_of xs) i f)
-        ∙ ap (λ k. gathered w (everywhere (kept_by (drop k ms) (drop k (objects_of xs)))) os) (sym (add-one i))
-        ∙ ap (λ l. gathered w (everywhere (kept_by (drop (i + 1) ms) l)) os) (drop-map object_of (i + 1) xs)
-        ∙ ap (gathered w (everywhere (kept_by (drop (i + 1) ms) (objects_of (drop (i + 1) xs))))) (sym g)
+      kept_next : kept_by (drop i ms) (objects_of (drop i xs)) ≡ cond (get_or ms i false) (object_of x ∷ rest) rest
+      unfolding rest
+      kept_next =
+          ap (λ l. kept_by (drop i ms) (objects_of l)) (drop_more xs i x lx ∙ ap (λ y. y ∷ drop (i + 1) xs) (sym e))
+          ∙ ap (λ m. kept_by m (object_of x ∷ objects_of (drop (i + 1) xs))) (drop_more ms i false lm)
+
+      pub fields_turn_yes : get_or ms i false ≡ true → new ≡ gathered w (object_of x).fields os → Left i os → Left (i + 1) new
+      unfolding rest
+      fields_turn_yes t g inv =
+          inv ∙ ap (λ l. gathered w (everywhere l) os) (kept_next ∙ cond-true (get_or ms i false) (object_of x ∷ rest) rest t)
+          ∙ gathered_append (object_of x).fields (everywhere rest) os ∙ ap (gathered w (everywhere rest)) (sym g)
+
+      pub fields_turn_no : get_or ms i false ≡ false → new ≡ os → Left i os → Left (i + 1) new
+      unfolding rest
+      fields_turn_no f g inv =
+          inv ∙ ap (λ l. gathered w (everywhere l) os) (kept_next ∙ cond-false (get_or ms i false) (object_of x ∷ rest) rest f)
+          ∙ ap (gathered w (everywhere rest)) (sym g)

@@ -15,11 +15,9 @@ or_false true = refl
 or_false false = refl
 
 -- whether marks were added, from step to step
-pub added_yes : (a b c : ℕ) → a ≤ b → true ≡ ltb b c → true ≡ ltb a c
-added_yes a b c h e = sym (lt-ltb a c (omega (arith, ltb-true b c (sym e))))
-
-pub added_no : (a b c : ℕ) (old : Bool) → b ≤ c → false ≡ ltb b c → old ≡ ltb a b → old ≡ ltb a c
-added_no a b c old h e o = let s : b ≡ c = omega (arith, ltb-false b c (sym e)) in o ∙ ap (ltb a) s
+pub added_or : (a b c : ℕ) (old now : Bool) → a ≤ b → b ≤ c → old ≡ ltb a b → now ≡ ltb b c → (old || now) ≡ ltb a c
+added_or a b c true now h k e f = sym (lt-ltb a c (omega (arith, ltb-true a b (sym e))))
+added_or a b c false now h k e f = let s : a ≡ b = omega (arith, ltb-false a b (sym e)) in f ∙ ap (λ n. ltb n c) (sym s)
 
 pub count_bound : (ms : List Bool) → count ms ≤ length ms
 unfolding count

@@ -1,12 +1,14 @@
 -- Places in rising lists.
-use Rattle.std.proofs.Common.{◌≡◌, ℕ, zero, suc, ◌+◌, ◌<◌, ◌≤◌, Bool, true, false, cond, eqb, ltb, List, [], ◌∷◌, map, length, get_or, is_some, Some, None, Option, sym, refl, ap, ◌∙◌, subst, ⊎_elim, arith}
+use Rattle.std.proofs.Common.{◌≡◌, ℕ, zero, suc, ◌+◌, ◌-◌, ◌<◌, ◌≤◌, true, false, cond, eqb, ltb, List, [], ◌∷◌, map, length, get_or, is_some, Some, None, Option, IfSome, Bor, sym, refl, ap, ◌∙◌, subst, ⊎_elim, arith}
 use Rattle.std.proofs.lemmas.Bool.{ltb-true, ltb-false, lt-ltb, le-ltb, and_parts, cond-true, cond-false, cases_lt, eq-eqb, ne_eqb, cases_eq, eqb-true, or_left, or_right, or_from, or_cases, or_parts, and_from, cases_Bool, both_ways, cond_both, eqb-false}
 use Rattle.std.proofs.lemmas.List.{get_or-map, length-map}
-use Rattle.std.specs.List.{insert, remove}
+use Rattle.std.proofs.lemmas.List.Sorted.{IsPartitionedBy-ltb}
+use Rattle.std.specs.List.{insert, remove, position, position_or_len}
+use Rattle.std.specs.Option.{option_eq}
+use Rattle.std.specs.List.Sorted.{IsPartitionedBy, IsPartitionPoint}
 use Rattle.tables.specs.declared.object.Object.{Object}
 use Rattle.tables.specs.Shown.{objects_of, names_in, number, numbers}
 use Rattle.wire.specs.declared.names.Name.{Name}
-use Rattle.wire.specs.Names.{name}
 use Rattle.tables.specs.Model.{below, above, rising, is_in, place_of, names, added, without, without_first}
 
 pub above_at : (x : ℕ) (xs : List ℕ) (k : ℕ) → above x xs ≡ true → k < length xs → x < get_or xs k 0
@@ -50,6 +52,37 @@ module _ (o : ℕ) where
 pub read_map : {X : Type 0} (f : X → ℕ) (xs : List X) (i : ℕ) (x : X) → i < length xs → x ≡ get_or xs i x → get_or (map f xs) i 0 ≡ f x
 read_map f xs i x h e = get_or-map f xs i x 0 h ∙ ap f (sym e)
 
+rises_at : (xs : List ℕ) (i j : ℕ) → rising xs ≡ true → i ≤ j → j < length xs → get_or xs i 0 ≤ get_or xs j 0
+rises_at [] i j r l h = absurd (omega arith)
+rises_at (x ∷ xs) zero zero r l h = omega arith
+rises_at (x ∷ xs) zero (suc j) r l h = let a = above_at x xs j (and_parts (above x xs) (rising xs) r).0 (omega arith) in omega arith
+rises_at (x ∷ xs) (suc i) zero r l h = absurd (omega arith)
+rises_at (x ∷ xs) (suc i) (suc j) r l h = rises_at xs i j (and_parts (above x xs) (rising xs) r).1 (omega arith) (omega arith)
+
+module _ {X : Type 0} (f : X → ℕ) (o : ℕ) where
+  at_map : (xs : List X) (i : ℕ) (d : X) → i < length xs → get_or (map f xs) i 0 ≡ f (get_or xs i d)
+  at_map xs i d h = get_or-map f xs i d 0 h
+
+  -- those below o stand before all others
+  pub parted_below : (xs : List X) → rising (map f xs) ≡ true → IsPartitionedBy (λ y. ltb (f y) o) xs
+  parted_below xs r = IsPartitionedBy-ltb f xs o (λ i j d l h. omega (arith, rises_at (map f xs) i j r l (omega (arith, length-map xs f)), at_map xs i d (omega arith), at_map xs j d h))
+
+  -- so the place of o is where they end
+  pub point_below : (xs : List X) (i : ℕ) → rising (map f xs) ≡ true → i ≤ length xs → IsPartitionPoint (λ y. ltb (f y) o ≡ true) (λ y. ltb (f y) o ≡ false) xs i → i ≡ below o (map f xs)
+  point_below [] i r l p = omega arith
+  point_below (x ∷ xs) i r l p =
+      let ns = map f (x ∷ xs) in
+      let len = length-map (x ∷ xs) f in
+      let up : below o ns ≤ i = ⊎_elim
+      (λ (h : i < length (x ∷ xs)). below_more o ns i r (omega arith) (omega (arith, at_map (x ∷ xs) i x h, ltb-false (f (get_or (x ∷ xs) i x)) o (p.1 i x (omega arith) h))))
+      (λ (h : length (x ∷ xs) ≤ i). omega (arith, below_within o ns))
+      (cases_lt i (length (x ∷ xs))) in
+      let down : i ≤ below o ns = ⊎_elim
+      (λ (h : 0 < i). let b = below_less o ns (i - 1) r (omega arith) (omega (arith, at_map (x ∷ xs) (i - 1) x (omega arith), ltb-true (f (get_or (x ∷ xs) (i - 1) x)) o (p.0 (i - 1) x (omega arith) (omega arith)))) in omega arith)
+      (λ (h : i ≤ 0). omega arith)
+      (cases_lt 0 i) in
+      omega arith
+
 pub is_in_at : (o : ℕ) (xs : List ℕ) (k : ℕ) → k < length xs → get_or xs k 0 ≡ o → is_in o xs ≡ true
 is_in_at o [] k h e = absurd (omega arith)
 is_in_at o (x ∷ xs) zero h e = or_left (eqb x o) (is_in o xs) (eq-eqb x o e)
@@ -80,6 +113,16 @@ place_there o xs at b l e = ap Some b ∙ sym (cond-true (is_in o xs) (Some (bel
 pub place_none : (o : ℕ) (xs : List ℕ) (at : ℕ) → at ≡ below o xs → rising xs ≡ true → (at < length xs → get_or xs at 0 ≡ o → ⊥) → None ≡ place_of o xs
 place_none o xs at b r f =
     sym (cond-false (is_in o xs) (Some (below o xs)) None (is_in_none o xs r (subst (λ k. k < length xs → get_or xs k 0 ≡ o → ⊥) b f)))
+
+-- what a look at a place of a table says, where it is compared with a name
+module _ (ns : List Name) (at : ℕ) (o : Bor Name) where
+  pub seen : (q : Option (Bor Name)) → is_some q ≡ ltb at (length ns) → IfSome q (λ x. x.now ≡ get_or ns at x.now) → option_eq (λ x y. eqb x.now.0 y.now.0) q (Some o) ≡ true → (at < length ns) × (get_or (numbers ns) at 0 ≡ o.now.0)
+  seen None s i e = absurd (both_ways false refl e)
+  seen (Some x) s i e = let l = ltb-true at (length ns) (sym s) in (l, read_map number ns at x.now l i ∙ eqb-true x.now.0 o.now.0 e)
+
+  pub unseen : (q : Option (Bor Name)) → is_some q ≡ ltb at (length ns) → IfSome q (λ x. x.now ≡ get_or ns at x.now) → option_eq (λ x y. eqb x.now.0 y.now.0) q (Some o) ≡ false → at < length ns → get_or (numbers ns) at 0 ≡ o.now.0 → ⊥
+  unseen None s i e l h = both_ways (ltb at (length ns)) (sym s) (lt-ltb at (length ns) l)
+  unseen (Some x) s i e l h = eqb-false x.now.0 o.now.0 e (sym (read_map number ns at x.now l i) ∙ h)
 
 -- the names of objects, as they lie and in the model
 pub names_in_place : (xs : List Object) → names (objects_of xs) ≡ names_in xs
@@ -181,36 +224,45 @@ place_facts o xs at r e = ⊎_elim
     (λ f. absurd (some_none at (e ∙ cond-false (is_in o xs) (Some (below o xs)) None f)))
     (cases_Bool (is_in o xs))
 
-pub held_place : (b : Bool) (p : Option ℕ) (at : ℕ) → Some at ≡ cond b p None → (b ≡ true) × (Some at ≡ p)
-held_place true p at e = (refl, e)
-held_place false p at e = absurd (some_none at e)
-
+-- what the search for the first of a name says of the list
 module _ (p : ℕ) where
-  none_in : (xs : List ℕ) → ((k : ℕ) → k < length xs → get_or xs k 0 ≡ p → ⊥) → is_in p xs ≡ false
-  none_in [] f = refl
-  none_in (x ∷ xs) f = or_from (eqb x p) (is_in p xs) (ne_eqb x p (f 0 (omega arith))) (none_in xs (λ k h e. f (suc k) (omega arith) e))
+  abbrev first_place : List Name → ℕ
+  first_place ns = position_or_len (λ q. eqb q.0 p) ns
 
-  first_removed : (xs : List ℕ) (r : ℕ) → r < length xs → ((k : ℕ) → k < r → get_or xs k 0 ≡ p → ⊥) → get_or xs r 0 ≡ p → without_first p xs ≡ remove xs r
-  first_removed [] r h f e = absurd (omega arith)
-  first_removed (x ∷ xs) zero h f e = cond-true (eqb x p) xs (x ∷ without_first p xs) (eq-eqb x p e)
-  first_removed (x ∷ xs) (suc r) h f e =
-      cond-false (eqb x p) xs (x ∷ without_first p xs) (ne_eqb x p (f 0 (omega arith)))
-      ∙ ap (λ t. x ∷ t) (first_removed xs r (omega arith) (λ k l g. f (suc k) (omega arith) g) e)
+  next : (a b : ℕ) → ltb a b ≡ ltb (1 + a) (suc b)
+  next a b = ⊎_elim
+      (λ h. lt-ltb a b h ∙ sym (lt-ltb (1 + a) (suc b) (omega arith)))
+      (λ h. le-ltb a b h ∙ sym (le-ltb (1 + a) (suc b) (omega arith)))
+      (cases_lt a b)
 
-  module _ (ns : List Name) (r : ℕ) (before : (k : ℕ) → k < r → (get_or ns k (name 0)).0 ≡ p → ⊥) where
-    at_number : (k : ℕ) → k < length ns → get_or (numbers ns) k 0 ≡ (get_or ns k (name 0)).0
-    at_number k h = get_or-map number ns k (name 0) 0 h
+  found_within : (ns : List Name) → is_in p (numbers ns) ≡ ltb (first_place ns) (length ns)
+  found_within [] = refl
+  found_within (n ∷ ns) = ⊎_elim
+      (λ t. rw t (sym (lt-ltb 0 (length (n ∷ ns)) (omega arith))))
+      (λ f. rw f (found_within ns ∙ next (first_place ns) (length ns)))
+      (cases_Bool (eqb n.0 p))
 
-    -- what the search for the first of a name says of the list
-    pub first_none : length ns ≤ r → is_in p (numbers ns) ≡ false
-    first_none h = none_in (numbers ns) (λ k l e. before k (omega (arith, length-map ns number)) (sym (at_number k (omega (arith, length-map ns number))) ∙ e))
+  found_removed : (ns : List Name) → is_in p (numbers ns) ≡ true → without_first p (numbers ns) ≡ remove (numbers ns) (first_place ns)
+  found_removed [] e = absurd (both_ways false refl e)
+  found_removed (n ∷ ns) e = ⊎_elim
+      (λ t. rw t refl)
+      (λ f. let s : suc (first_place ns) ≡ 1 + first_place ns = omega arith in rw f (ap (λ os. n.0 ∷ os) (found_removed ns (rw f at e)) ∙ ap (remove (numbers (n ∷ ns))) s))
+      (cases_Bool (eqb n.0 p))
 
-    pub first_there : r < length ns → (get_or ns r (name 0)).0 ≡ p → (is_in p (numbers ns) ≡ true) × (without_first p (numbers ns) ≡ remove (numbers ns) r)
-    first_there h e =
-        let l : r < length (numbers ns) = omega (arith, length-map ns number) in (
-          is_in_at p (numbers ns) r l (at_number r h ∙ e),
-          first_removed (numbers ns) r l (λ k g q. before k g (sym (at_number k (omega arith)) ∙ q)) (at_number r h ∙ e),
-        )
+  pub first_none : (ns : List Name) → None ≡ position (λ q. eqb q.0 p) ns → is_in p (numbers ns) ≡ false
+  first_none ns e = ⊎_elim
+      (λ t. absurd (some_none (first_place ns) (sym (e ∙ cond-true (ltb (first_place ns) (length ns)) (Some (first_place ns)) None t))))
+      (λ f. found_within ns ∙ f)
+      (cases_Bool (ltb (first_place ns) (length ns)))
+
+  pub first_there : (ns : List Name) (at : ℕ) → Some at ≡ position (λ q. eqb q.0 p) ns → (at < length (numbers ns)) × (is_in p (numbers ns) ≡ true) × (without_first p (numbers ns) ≡ remove (numbers ns) at)
+  first_there ns at e = ⊎_elim
+      (λ t.
+      let same = some_same at (first_place ns) (e ∙ cond-true (ltb (first_place ns) (length ns)) (Some (first_place ns)) None t) in
+      let there = found_within ns ∙ t in
+      (omega (arith, same, length-map ns number, ltb-true (first_place ns) (length ns) t), there, found_removed ns there ∙ ap (remove (numbers ns)) (sym same)))
+      (λ f. absurd (some_none at (e ∙ cond-false (ltb (first_place ns) (length ns)) (Some (first_place ns)) None f)))
+      (cases_Bool (ltb (first_place ns) (length ns)))
 
 pub without_out : (o : ℕ) (xs : List ℕ) → is_in o xs ≡ false → without o xs ≡ xs
 without_out o [] f = refl

@@ -1,9 +1,10 @@
-ghost use Rattle.std.specs.Prelude.{◌≡◌, ◌<◌, [], ◌∷◌, ◌++◌};
+ghost use Rattle.std.specs.Prelude.{◌≡◌, ◌<◌, [], ◌∷◌, ◌++◌, length, nat_le};
 ghost use Rattle.std.specs.List.{remove};
-ghost use Rattle.tables.specs.Shown.{object_of, numbers, field_names};
+ghost use Rattle.tables.specs.Shown.{object_of, numbers};
 ghost use Rattle.tables.specs.Model.{bare, with_fields};
 
 use crate::object::Object;
+use arrayvec::ArrayVec;
 use wire::Name;
 
 impl Object {
@@ -13,8 +14,7 @@ impl Object {
     {
         Object {
             name,
-            count: 0,
-            slots: [Name(0); 8],
+            fields: ArrayVec::new(),
         }
     }
 
@@ -24,48 +24,33 @@ impl Object {
         self.name
     }
 
-    // How many fields there are.
-    pub fn count(&self) -> usize
-        ensures { result ≡ self.now.count }
-    {
-        self.count as usize
-    }
-
     // The fields, the oldest first.
     pub fn fields(&self) -> &[Name]
         ensures { numbers result.now ≡ (object_of self.now).fields }
     {
-        &self.slots[0..self.count as usize]
+        &self.fields
     }
 
-    // The object with one more field at the end.
-    pub fn linked(self, p: Name) -> Object
-        requires { self.count < 8 }
-        ensures { object_of result ≡ with_fields (object_of self) ((object_of self).fields ++ p.0 ∷ []) }
+    // Whether there is no room for one more field.
+    pub fn is_full(&self) -> bool
+        ensures { result ≡ nat_le 8 (length (object_of self.now).fields) }
     {
-        let mut slots = self.slots;
-        slots[self.count as usize] = p;
-        Object {
-            name: self.name,
-            count: self.count + 1,
-            slots,
-        }
+        self.fields.is_full()
     }
 
-    // The object without the field at a place; those behind it close up.
-    pub fn unlinked(self, at: usize) -> Object
-        requires { at < self.count }
-        ensures { object_of result ≡ with_fields (object_of self) (remove (object_of self).fields at) }
+    // Puts one more field at the end.
+    pub fn link(&mut self, p: Name)
+        requires { length (object_of self.old).fields < 8 }
+        ensures { object_of self.new ≡ with_fields (object_of self.old) ((object_of self.old).fields ++ p.0 ∷ []) }
     {
-        let count = self.count as usize;
-        let mut slots = self.slots;
-        for i in at + 1..count {
-            slots[i - 1] = slots[i];
-        }
-        Object {
-            name: self.name,
-            count: self.count - 1,
-            slots,
-        }
+        self.fields.push(p);
+    }
+
+    // Takes the field at a place away; those behind it close up.
+    pub fn unlink(&mut self, at: usize)
+        requires { at < length (object_of self.old).fields }
+        ensures { object_of self.new ≡ with_fields (object_of self.old) (remove (object_of self.old).fields at) }
+    {
+        self.fields.remove(at);
     }
 }

@@ -16,13 +16,13 @@ impl Which {
         ensures { result ≡ wanted self p.0 }
     {
         match self {
-            Which::Of(house) => p.home().0 == house.0,
-            Which::NotOf(house) => p.home().0 != house.0,
+            Which::Of(house) => p.home() == house,
+            Which::NotOf(house) => p.home() != house,
         }
     }
 }
 
-// Puts those of the names that are looked for into a rising table.
+// Puts those of the names that are looked for into a rising table, a plain Vec, since that is what is handed on.
 pub fn gather(out: &mut Vec<Name>, names: &[Name], which: Which) -> Result<(), AllocError>
     requires { rising (numbers out.old.items) ≡ true }
     ensures { OnOk result (numbers out.new.items ≡ gathered which (numbers names.now) (numbers out.old.items)) }
@@ -46,9 +46,9 @@ pub fn gather_fields(
     requires room { length objects.now ≤ length marks.now }
     ensures { OnOk result (numbers out.new.items ≡ gathered which (everywhere (kept_by marks.now (objects_of objects.now))) (numbers out.old.items)) }
 {
-    for i in 0..objects.len() {
-        if marks[i] {
-            gather(out, objects[i].fields(), which)?;
+    for (x, marked) in objects.iter().zip(marks) {
+        if *marked {
+            gather(out, x.fields(), which)?;
         }
     }
     Ok(())

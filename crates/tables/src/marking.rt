@@ -1,80 +1,67 @@
-ghost use Rattle.std.specs.Prelude.{◌≡◌, ℕ, ◌<◌, ◌≤◌, true, false, ◌++◌, length, nat_lt, slice_index_or};
+ghost use Rattle.std.specs.Prelude.{◌≡◌, ℕ, ◌≤◌, true, false, ◌++◌, length, nat_lt, slice_index_or};
 ghost use Rattle.tables.specs.Model.{rising};
-ghost use Rattle.tables.specs.Marks.{count, noted, noted_all, grown, passed, field_lists, Marked};
+ghost use Rattle.tables.specs.Marks.{count, noted, noted_all, passed, field_lists, Marked};
 ghost use Rattle.tables.specs.Shown.{numbers, names_in};
 
 use crate::object::Object;
 use crate::place::find;
 use wire::Name;
 
-// Marks the object named `p`; says whether it had no mark.
-fn note(objects: &[Object], p: Name, marks: &mut [bool]) -> bool
-    requires ordered { rising (names_in objects.now) ≡ true }
-    requires room { length objects.now ≤ length marks.old }
-    ensures after { marks.new ≡ noted p.0 (names_in objects.now) marks.old }
-    ensures added { result ≡ nat_lt (count marks.old) (count marks.new) }
-{
-    let Some(at) = find(objects, p) else {
-        return false;
-    };
-    if marks[at] {
-        return false;
-    }
-    marks[at] = true;
-    true
+// The marks of a table's objects, by their places.
+#[derive(Drop)]
+struct Marking<'a> {
+    objects: &'a [Object],
+    marks: &'a mut [bool],
+    ghost ordered: { rising (names_in objects.now) ≡ true },
+    ghost room: { length objects.now ≤ length marks.now },
 }
 
-// Marks the objects that are named; says whether one had no mark.
-fn spread(objects: &[Object], names: &[Name], marks: &mut [bool]) -> bool
-    requires ordered { rising (names_in objects.now) ≡ true }
-    requires room { length objects.now ≤ length marks.old }
-    ensures after { marks.new ≡ noted_all (numbers names.now) (names_in objects.now) marks.old }
-    ensures added { result ≡ nat_lt (count marks.old) (count marks.new) }
-{
-    let mut added = false;
-    for p in names {
-        if note(objects, *p, marks) {
-            added = true;
+impl Marking<'_> {
+    // Marks the object named `p`; says whether it had no mark.
+    fn note(&mut self, p: Name) -> bool
+        ensures kept { self.new.objects ≡ self.old.objects }
+        ensures same_reference { self.new.marks.ghost_name ≡ self.old.marks.ghost_name }
+        ensures after { self.new.marks.now ≡ noted p.0 (names_in self.old.objects.now) self.old.marks.now }
+        ensures added { result ≡ nat_lt (count self.old.marks.now) (count self.new.marks.now) }
+    {
+        let Some(at) = find(self.objects, p) else {
+            return false;
+        };
+        if self.marks[at] {
+            return false;
         }
+        self.marks[at] = true;
+        true
     }
-    added
-}
 
-// Marks what the object at place `i` refers to, if it is marked itself; says whether one had no mark.
-fn grow(objects: &[Object], i: usize, marks: &mut [bool]) -> bool
-    requires ordered { rising (names_in objects.now) ≡ true }
-    requires room { length objects.now ≤ length marks.old }
-    requires within { i < length objects.now }
-    ensures after { marks.new ≡ grown (names_in objects.now) (field_lists objects.now) i marks.old }
-    ensures added { result ≡ nat_lt (count marks.old) (count marks.new) }
-{
-    marks[i] && spread(objects, objects[i].fields(), marks)
-}
-
-// One pass over all objects and fields: what marked objects refer to is marked; says whether one had no mark.
-fn pass(objects: &[Object], marks: &mut [bool]) -> bool
-    requires ordered { rising (names_in objects.now) ≡ true }
-    requires room { length objects.now ≤ length marks.old }
-    ensures after { marks.new ≡ passed (names_in objects.now) (field_lists objects.now) 0 (length objects.now) marks.old }
-    ensures added { result ≡ nat_lt (count marks.old) (count marks.new) }
-{
-    let mut added = false;
-    for i in 0..objects.len() {
-        if grow(objects, i, marks) {
-            added = true;
+    // Marks the objects that are named; says whether one had no mark.
+    fn spread(&mut self, names: &[Name]) -> bool
+        ensures kept { self.new.objects ≡ self.old.objects }
+        ensures same_reference { self.new.marks.ghost_name ≡ self.old.marks.ghost_name }
+        ensures after { self.new.marks.now ≡ noted_all (numbers names.now) (names_in self.old.objects.now) self.old.marks.now }
+        ensures added { result ≡ nat_lt (count self.old.marks.now) (count self.new.marks.now) }
+    {
+        let mut added = false;
+        for p in names {
+            added |= self.note(*p);
         }
+        added
     }
-    added
-}
 
-// Marks the roots and the listed objects.
-fn begin(objects: &[Object], roots: &[Name], listed: &[Name], marks: &mut [bool])
-    requires ordered { rising (names_in objects.now) ≡ true }
-    requires room { length objects.now ≤ length marks.old }
-    ensures { marks.new ≡ noted_all (numbers listed.now) (names_in objects.now) (noted_all (numbers roots.now) (names_in objects.now) marks.old) }
-{
-    spread(objects, roots, marks);
-    spread(objects, listed, marks);
+    // One pass over all objects and fields: what marked objects refer to is marked; says whether one had no mark.
+    fn pass(&mut self) -> bool
+        ensures kept { self.new.objects ≡ self.old.objects }
+        ensures same_reference { self.new.marks.ghost_name ≡ self.old.marks.ghost_name }
+        ensures after { self.new.marks.now ≡ passed (names_in self.old.objects.now) (field_lists self.old.objects.now) 0 (length self.old.objects.now) self.old.marks.now }
+        ensures added { result ≡ nat_lt (count self.old.marks.now) (count self.new.marks.now) }
+    {
+        let mut added = false;
+        let objects = self.objects;
+        for (i, x) in objects.iter().enumerate() {
+            added |= self.marks[i] && self.spread(x.fields());
+        }
+        added
+    }
 }
 
 // Marks exactly the objects that are met from the roots and the listed names, by passes until one adds nothing.
@@ -84,9 +71,11 @@ pub fn mark(objects: &[Object], roots: &[Name], listed: &[Name], marks: &mut [bo
     requires clear { (k : ℕ) → slice_index_or marks.old k false ≡ false }
     ensures { Marked objects.now (numbers roots.now ++ numbers listed.now) marks.new }
 {
-    begin(objects, roots, listed, marks);
+    let mut marking = Marking { objects, marks };
+    marking.spread(roots);
+    marking.spread(listed);
     'passes: loop {
-        if !pass(objects, marks) {
+        if !marking.pass() {
             break 'passes;
         }
     }

@@ -1,13 +1,9 @@
-ghost use Rattle.std.specs.Prelude.{◌≡◌, ◌≤◌, length};
-
+use arrayvec::ArrayVec;
 use wire::Name;
 
 // An object: its name, and up to eight fields in the order of linking, the oldest first.
-#[derive(Clone, Copy)]
+#[derive(Drop)]
 pub struct Object {
     pub(crate) name: Name,
-    pub(crate) count: u8,
-    pub(crate) slots: [Name; 8],
-    ghost few: { count ≤ 8 },
-    ghost eight: { length slots ≡ 8 },
+    pub(crate) fields: ArrayVec<Name, 8>,
 }

@@ -1,5 +1,4 @@
-ghost use Rattle.std.specs.Prelude.{◌≡◌, ℕ, ◌<◌, ◌≤◌, true, map, length, IfSome, is_ok, if◌then◌else◌, vec_len, vec_capacity, ◌≢◌, slice_index_or};
-ghost use Rattle.wire.specs.Names.{name};
+ghost use Rattle.std.specs.Prelude.{◌≡◌, ℕ, ◌<◌, ◌≤◌, true, map, length, IfSome, is_ok, if◌then◌else◌, vec_len, vec_capacity, ◌==◌, position};
 ghost use Rattle.tables.specs.Model.{rising, below, place_of, added};
 ghost use Rattle.tables.specs.Shown.{name_in, number, numbers};
 
@@ -36,17 +35,7 @@ pub fn place<X: Named>(table: &[X], o: Name) -> usize
     requires { rising (map X.called table.now) ≡ true }
     ensures { result ≡ below o.0 (map X.called table.now) }
 {
-    let mut low = 0;
-    let mut high = table.len();
-    while low < high {
-        let middle = low + (high - low) / 2;
-        if table[middle].its_name().0 < o.0 {
-            low = middle + 1;
-        } else {
-            high = middle;
-        }
-    }
-    low
+    table.partition_point(|x| x.its_name() < o)
 }
 
 // The place of `o` in a table, if it is there.
@@ -56,25 +45,17 @@ pub fn find<X: Named>(table: &[X], o: Name) -> Option<usize>
     ensures within { IfSome result (λ at. at < length table.now) }
 {
     let at = place(table, o);
-    if at < table.len() && table[at].its_name().0 == o.0 {
-        Some(at)
-    } else {
-        None
+    match table.get(at) {
+        Some(x) if x.its_name() == o => Some(at),
+        _ => None,
     }
 }
 
-// The place of the first `p`, or the length where there is none.
-pub fn first(names: &[Name], p: Name) -> usize
-    ensures within { result ≤ length names.now }
-    ensures before { (k : ℕ) → k < result → (slice_index_or names.now k (name 0)).0 ≢ p.0 }
-    ensures there { result < length names.now → (slice_index_or names.now result (name 0)).0 ≡ p.0 }
+// The place of the first `p`, if there is one.
+pub fn first(names: &[Name], p: Name) -> Option<usize>
+    ensures { result ≡ position (λ q. q.0 == p.0) names.now }
 {
-    for i in 0..names.len() {
-        if names[i].0 == p.0 {
-            return i;
-        }
-    }
-    names.len()
+    names.iter().position(|q| *q == p)
 }
 
 // Puts a name into a rising table, unless it is there.
@@ -85,7 +66,7 @@ pub fn enter(table: &mut Vec<Name>, o: Name) -> Result<(), AllocError>
     ensures succeeds { vec_len table.old < vec_capacity table.old → is_ok result ≡ true }
 {
     let at = place(table, o);
-    if at == table.len() || table[at].0 != o.0 {
+    if table.get(at) != Some(&o) {
         table.insert(at, o)?;
     }
     Ok(())

@@ -9,7 +9,7 @@ use std::fmt;
 pub struct House(pub u8);
 
 // An object's name: sixteen times its number, which is at least 1, plus its home, the house that it lives in.
-#[derive(Clone, Copy, Debug, PartialEq, Eq, PartialOrd, Ord)]
+#[derive(Clone, Copy, Debug, Default, PartialEq, Eq, PartialOrd, Ord)]
 pub struct Name(pub u32);
 
 // Stamp: the count of references that one house has handed to another, so that late and doubled ones can be told.

@@ -1,34 +1,23 @@
-use Rattle.std.proofs.Common.{◌++◌, vec_items, refl, ap, ◌∙◌, subst, arith}
+use Rattle.std.proofs.Common.{◌++◌, vec_items, refl}
 use Rattle.std.proofs.lemmas.Result.{IfOk-weaker}
-use Rattle.tables.specs.Model.{rising}
 use Rattle.tables.specs.Marks.{Marked}
 use Rattle.tables.specs.Met.{Lists, FarInUse}
 use Rattle.tables.specs.Gathered.{Found}
 use Rattle.tables.specs.declared.which.Which.TheVariants.{NotOf}
-use Rattle.tables.specs.Shown.{numbers, names_in}
+use Rattle.tables.specs.Shown.{numbers}
 use Rattle.objects.specs.Calls.{heap_of}
-use Rattle.objects.proofs.Kept.{clear_all}
 use Rattle.objects.specs.Laws.{Sole, Well}
 use Rattle.objects.proofs.Laws.{sole, met_well}
 use Rattle.objects.proofs.Sought.{far_lists}
 use Rattle.objects.proofs.store.Objects.in_use.Goals as goal
-
-pub mark-requires : goal.mark-requires
-mark-requires c =
-    let s = c.args.self.now in
-    record {
-      ordered = ap (λ xs. rising (names_in xs)) c.deref.ensures.value ∙ s.ordered;
-      room = omega (arith, c.deref.ensures.len, s.few);
-      clear = λ k. clear_all 1024 k;
-    }
 
 pub returns : goal.returns
 returns c =
     let s = c.args.self.now in
     let xs = vec_items s.objects in
     let from = numbers c.args.from.now in
-    let ms = c.mark.new.marks in
-    let marked : Marked xs ((heap_of s).roots ++ from) ms = subst (λ ys. Marked ys ((heap_of s).roots ++ from) ms) c.deref.ensures.value (subst (λ rs. Marked c.deref.result.now (numbers rs ++ from) ms) c.deref-2.ensures.value c.mark.ensures) in
+    let ms = c.met.result in
+    let marked : Marked xs ((heap_of s).roots ++ from) ms = c.met.ensures in
     let lists = IfOk-weaker c.references.result (λ v. Found (NotOf s.home) (heap_of s) from ms (numbers (vec_items v))) (λ v. Lists (numbers (vec_items v)) (FarInUse (heap_of s) from))
     (λ v f. far_lists (heap_of s) s.home xs from ms (numbers (vec_items v)) refl refl s.ordered marked f)
     c.references.ensures in

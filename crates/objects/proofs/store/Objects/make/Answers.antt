@@ -27,28 +27,29 @@ returns-then-len-ge1024 c =
     let v : Err NoRoom ≡ make_answer k h = search rules in
     record { value = v; after = refused_so (make_answer k h) NoRoom (made_new k h) h v }
 
-pub returns-then-number-self : goal.returns-then-number-self
-returns-then-number-self c =
+pub returns-then-number-from : goal.returns-then-number-from
+returns-then-number-from c =
     let s = c.args.self.now in
     let k = c.args.number in
     let h = heap_of s in
     let z : eqb k 0 ≡ false = ne_eqb k 0 c.if-number-eq0.false in
     let free : (ltb (length h.objects) 1024 && roomy h) ≡ true = and_from (ltb (length h.objects) 1024) (roomy h) (lt-ltb (length h.objects) 1024 (omega (arith, c.if-len-ge1024.false, c.len.ensures, s.objects.ok.0, length-map (vec_items s.objects) object_of))) (sym (roomy_len s) ∙ sym c.has_room.ensures ∙ c.if-not-has_room.false) in
-    let low : (leb k h.made || ltb 4294967295 (k * 16 + h.home)) ≡ true = or_left (leb k h.made) (ltb 4294967295 (k * 16 + h.home)) (le-leb k h.made c.if-number-self.true) in
+    let low : (leb k h.made || ltb 4294967295 (k * 16 + h.home)) ≡ true = or_left (leb k h.made) (ltb 4294967295 (k * 16 + h.home)) (le-leb k h.made (omega (arith, c.if-number-from.true, c.from.ensures))) in
     let v : Err OutOfNumbers ≡ make_answer k h = search rules in
     record { value = v; after = refused_so (make_answer k h) OutOfNumbers (made_new k h) h v }
 
-pub returns-in_default : goal.returns-in_default
-returns-in_default c =
+pub returns-in_err-name : goal.returns-in_err-name
+returns-in_err-name c =
     let s = c.args.self.now in
     let k = c.args.number in
     let h = heap_of s in
     let z : eqb k 0 ≡ false = ne_eqb k 0 c.if-number-eq0.false in
     let free : (ltb (length h.objects) 1024 && roomy h) ≡ true = and_from (ltb (length h.objects) 1024) (roomy h) (lt-ltb (length h.objects) 1024 (omega (arith, c.if-len-ge1024.false, c.len.ensures, s.objects.ok.0, length-map (vec_items s.objects) object_of))) (sym (roomy_len s) ∙ sym c.has_room.ensures ∙ c.if-not-has_room.false) in
-    let big : 268435456 ≤ k = named_err k s.home c.in_default.field-0 c.if-number-eq0.false (omega (arith, s.inside, s.sixteen)) (sym c.in_default.is ∙ c.new.ensures.value) in
-    let out : (leb k h.made || ltb 4294967295 (k * 16 + h.home)) ≡ true = or_right (leb k h.made) (ltb 4294967295 (k * 16 + h.home)) (lt-ltb 4294967295 (k * 16 + h.home) (omega arith)) in
+    let big = named_err k s.home c.in_err-name.field-0.0 c.if-number-eq0.false (omega (arith, s.inside, s.sixteen)) (sym c.in_err-name.was ∙ c.new.ensures.value) in
+    let out : (leb k h.made || ltb 4294967295 (k * 16 + h.home)) ≡ true = or_right (leb k h.made) (ltb 4294967295 (k * 16 + h.home)) (lt-ltb 4294967295 (k * 16 + h.home) (omega (arith, big.0))) in
     let v : Err OutOfNumbers ≡ make_answer k h = search rules in
-    record { value = v; after = refused_so (make_answer k h) OutOfNumbers (made_new k h) h v }
+    let w : Err c.in_err-name.field-0.0 ≡ make_answer k h = ap Err big.1 ∙ v in
+    record { value = search rules; after = refused_so (make_answer k h) OutOfNumbers (made_new k h) h v }
 
 pub invariant_of-self : goal.invariant_of-self
 invariant_of-self c =
@@ -56,17 +57,17 @@ invariant_of-self c =
     let k = c.args.number in
     let o = k * 16 + s.home.0 in
     let xs = vec_items s.objects in
-    let q = named_ok k s.home c.in-Ok.name c.in-Ok.ensures.value in
-    let on : c.in-Ok.name.0 ≡ o = ap number q.0 in
-    let kn : c.number-self.result ≡ k = c.number-self.ensures ∙ c.in-Ok.ensures.parts.number in
+    let q = named_ok k s.home c.in_ok-name.name c.in_ok-name.ensures.value in
+    let on : c.in_ok-name.name.0 ≡ o = ap number q.0 in
+    let kn : c.number-self.result ≡ k = c.number-self.ensures ∙ c.in_ok-name.ensures.parts.number in
     let ns = pushed_names xs (vec_items c.push_reserved.new.self) c.new-2.result o c.push_reserved.ensures.items (c.new-2.ensures ∙ ap bare on) in
     let os = pushed_objects xs (vec_items c.push_reserved.new.self) c.new-2.result o c.push_reserved.ensures.items (c.new-2.ensures ∙ ap bare on) in
-    let up : s.made < k = c.if-number-self.false in
+    let up : s.made < k = omega (arith, c.if-number-from.false, c.from.ensures) in
     let l16 : s.home.0 < 16 = omega (arith, s.inside, s.sixteen) in
     let free : vec_len s.roots < 256 = ltb-true (vec_len s.roots) 256 (sym c.has_room.ensures ∙ c.if-not-has_room.false) in
-    let rs : numbers (vec_items c.enter.new.table) ≡ added c.in-Ok.name.0 (numbers (vec_items s.roots)) = c.enter.ensures.items ∙ cond-true (is_ok c.enter.result) (added c.in-Ok.name.0 (numbers (vec_items s.roots))) (numbers (vec_items s.roots)) (c.enter.ensures.succeeds (omega (arith, s.room_roots))) in
+    let rs : numbers (vec_items c.enter.new.table) ≡ added c.in_ok-name.name.0 (numbers (vec_items s.roots)) = c.enter.ensures.items ∙ cond-true (is_ok c.enter.result) (added c.in_ok-name.name.0 (numbers (vec_items s.roots))) (numbers (vec_items s.roots)) (c.enter.ensures.succeeds (omega (arith, s.room_roots))) in
     let few : vec_len c.enter.new.table ≤ 256 =
-    omega (arith, c.enter.new.table.ok.0, length-map (vec_items c.enter.new.table) number, ap length rs, length_added c.in-Ok.name.0 (numbers (vec_items s.roots)), length-map (vec_items s.roots) number, s.roots.ok.0) in
+    omega (arith, c.enter.new.table.ok.0, length-map (vec_items c.enter.new.table) number, ap length rs, length_added c.in_ok-name.name.0 (numbers (vec_items s.roots)), length-map (vec_items s.roots) number, s.roots.ok.0) in
     record {
       sixteen = s.sixteen;
       inside = s.inside;
@@ -76,8 +77,8 @@ invariant_of-self c =
       own = ap (all_own s.home.0 c.number-self.result) ns ∙ ap (λ m. all_own s.home.0 m (names_in xs ++ o ∷ [])) kn ∙ own_made s.home.0 s.made k (names_in xs) l16 up s.own;
       few_roots = few;
       room_roots = omega (arith, c.enter.ensures.capacity, s.room_roots);
-      ordered_roots = ap rising rs ∙ rising_added c.in-Ok.name.0 (numbers (vec_items s.roots)) s.ordered_roots;
-      well_roots = ap (all_well s.houses) rs ∙ well_added s.houses c.in-Ok.name.0 (numbers (vec_items s.roots)) (ap (λ y. well_formed s.houses (name y)) on ∙ well_made s.houses k s.home.0 (omega arith) l16 s.inside) s.well_roots;
+      ordered_roots = ap rising rs ∙ rising_added c.in_ok-name.name.0 (numbers (vec_items s.roots)) s.ordered_roots;
+      well_roots = ap (all_well s.houses) rs ∙ well_added s.houses c.in_ok-name.name.0 (numbers (vec_items s.roots)) (ap (λ y. well_formed s.houses (name y)) on ∙ well_made s.houses k s.home.0 (omega arith) l16 s.inside) s.well_roots;
       well_fields = ap (fields_well s.houses) os ∙ pushed_well s.houses o (objects_of xs) s.well_fields;
     }
 
@@ -88,15 +89,15 @@ returns c =
     let h = heap_of s in
     let o = k * 16 + s.home.0 in
     let xs = vec_items s.objects in
-    let q = named_ok k s.home c.in-Ok.name c.in-Ok.ensures.value in
-    let on : c.in-Ok.name.0 ≡ o = ap number q.0 in
-    let kn : c.number-self.result ≡ k = c.number-self.ensures ∙ c.in-Ok.ensures.parts.number in
+    let q = named_ok k s.home c.in_ok-name.name c.in_ok-name.ensures.value in
+    let on : c.in_ok-name.name.0 ≡ o = ap number q.0 in
+    let kn : c.number-self.result ≡ k = c.number-self.ensures ∙ c.in_ok-name.ensures.parts.number in
     let os = pushed_objects xs (vec_items c.push_reserved.new.self) c.new-2.result o c.push_reserved.ensures.items (c.new-2.ensures ∙ ap bare on) in
     let have : vec_len s.roots < 256 = ltb-true (vec_len s.roots) 256 (sym c.has_room.ensures ∙ c.if-not-has_room.false) in
-    let rs : numbers (vec_items c.enter.new.table) ≡ added o h.roots = c.enter.ensures.items ∙ cond-true (is_ok c.enter.result) (added c.in-Ok.name.0 h.roots) h.roots (c.enter.ensures.succeeds (omega (arith, s.room_roots))) ∙ ap (λ n. added n h.roots) on in
+    let rs : numbers (vec_items c.enter.new.table) ≡ added o h.roots = c.enter.ensures.items ∙ cond-true (is_ok c.enter.result) (added c.in_ok-name.name.0 h.roots) h.roots (c.enter.ensures.succeeds (omega (arith, s.room_roots))) ∙ ap (λ n. added n h.roots) on in
     let z : eqb k 0 ≡ false = ne_eqb k 0 c.if-number-eq0.false in
     let free : (ltb (length h.objects) 1024 && roomy h) ≡ true = and_from (ltb (length h.objects) 1024) (roomy h) (lt-ltb (length h.objects) 1024 (omega (arith, c.if-len-ge1024.false, c.len.ensures, s.objects.ok.0, length-map (vec_items s.objects) object_of))) (sym (roomy_len s) ∙ sym c.has_room.ensures ∙ c.if-not-has_room.false) in
-    let inside : (leb k h.made || ltb 4294967295 (k * 16 + h.home)) ≡ false = or_from (leb k h.made) (ltb 4294967295 (k * 16 + h.home)) (lt-leb k h.made c.if-number-self.false) (le-ltb 4294967295 (k * 16 + h.home) (omega (arith, q.1, s.inside, s.sixteen))) in
+    let inside : (leb k h.made || ltb 4294967295 (k * 16 + h.home)) ≡ false = or_from (leb k h.made) (ltb 4294967295 (k * 16 + h.home)) (lt-leb k h.made (omega (arith, c.if-number-from.false, c.from.ensures))) (le-ltb 4294967295 (k * 16 + h.home) (omega (arith, q.1, s.inside, s.sixteen))) in
     let v : Ok (name o) ≡ make_answer k h = search rules in
     record {
       value = ap Ok q.0 ∙ v;

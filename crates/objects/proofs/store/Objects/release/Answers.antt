@@ -1,4 +1,5 @@
-use Rattle.std.proofs.Common.{◌≡◌, true, Some, Ok, vec_items, ap, ◌∙◌, arith, rules}
+use Rattle.std.proofs.Common.{◌≡◌, true, Some, Ok, vec_items, sym, ap, ◌∙◌, arith, rules}
+use Rattle.wire.specs.declared.refusal.Refusal.TheVariants.{NotRoot}
 use Rattle.tables.specs.Model.{is_in, without, rising, place_of, all_well}
 use Rattle.tables.specs.Shown.{number, numbers}
 use Rattle.objects.specs.Calls.{heap_of, with_roots, drop_answer, unrooted}
@@ -6,7 +7,7 @@ use Rattle.tables.proofs.Well.{well_without}
 use Rattle.tables.proofs.Places.{place_facts, removed_without, rising_without}
 use Rattle.tables.proofs.Edits.{map_removed}
 use Rattle.objects.proofs.Laws.{frees, without_gone}
-use Rattle.objects.proofs.Helds.{accepted}
+use Rattle.objects.proofs.Helds.{accepted, hit}
 use Rattle.objects.proofs.store.Objects.release.Goals as goal
 
 -- the root is there, and goes
@@ -14,9 +15,9 @@ gone : (c : goal.After-remove) → (is_in c.args.o.0 (numbers (vec_items c.args.
 gone c =
     let s = c.args.self.now in
     let o = c.args.o.0 in
-    let at = c.in-Some.at in
+    let at = c.in_ok-at.at in
     let ns = numbers (vec_items s.roots) in
-    let e : Some at ≡ place_of o ns = c.in-Some.ensures.value ∙ ap (λ xs. place_of o (numbers xs)) c.deref.ensures.value in
+    let e : Some at ≡ place_of o ns = hit c.find.result NotRoot c.in_ok-at.at (sym c.in_ok-at.was ∙ c.ok_or.ensures.value) ∙ c.find.ensures.value ∙ ap (λ xs. place_of o (numbers xs)) c.deref.ensures.value in
     let f = place_facts o ns at s.ordered_roots e in
     (f.0, ap numbers c.remove.ensures.items ∙ map_removed number (vec_items s.roots) at ∙ removed_without o ns at s.ordered_roots f.1 f.2)
 
@@ -42,9 +43,9 @@ pub returns : goal.returns
 returns c =
     let s = c.args.self.now in
     let o = c.args.o.0 in
-    let at = c.in-Some.at in
+    let at = c.in_ok-at.at in
     let ns = numbers (vec_items s.roots) in
-    let e : Some at ≡ place_of o ns = c.in-Some.ensures.value ∙ ap (λ xs. place_of o (numbers xs)) c.deref.ensures.value in
+    let e : Some at ≡ place_of o ns = hit c.find.result NotRoot c.in_ok-at.at (sym c.in_ok-at.was ∙ c.ok_or.ensures.value) ∙ c.find.ensures.value ∙ ap (λ xs. place_of o (numbers xs)) c.deref.ensures.value in
     let f = place_facts o ns at s.ordered_roots e in
     let there : is_in o (heap_of s).roots ≡ true = f.0 in
     let v : Ok tt ≡ drop_answer o (heap_of s) = search rules in
