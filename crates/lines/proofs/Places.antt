@@ -1,6 +1,8 @@
 -- Laws of places: a search, and what is found or new.
 use Rattle.std.proofs.Common.{◌≡◌, ℕ, zero, suc, ◌+◌, ◌-◌, ◌<◌, ◌≤◌, true, false, cond, ◌||◌, eqb, ◌≢◌, List, [], ◌∷◌, ◌++◌, length, set, is_some, Some, None, sym, refl, ap, ◌∙◌, ⊎_elim, arith, get_or-set_other, get_or-set_same}
 use Rattle.std.proofs.lemmas.Bool.{eq-eqb, eqb-true, and_parts, cases_Bool, cases_eq, cond-true, cond-false}
+use Rattle.std.proofs.lemmas.Iterator.Adapters.{position_from-zero}
+use Rattle.std.specs.List.{position, position_from, range_with_len}
 use Rattle.lines.specs.Listed.{Listed, line, is_of, listed, place, entered}
 use Rattle.lines.specs.Columns.{row, rows, model}
 use Rattle.lines.proofs.Rows.{rows_more, rows_none, rows_same, line_same}
@@ -98,16 +100,14 @@ module _ (o j : ℕ) where
       cc)
       (cases_Bool (is_of o j (f i)))
 
-  -- a search that has come to i: found, one on, at the end
-  pub search_here : (f : ℕ → Listed) (i n : ℕ) → i < n → is_of o j (f i) ≡ true → place o j i (rows f i (n - i)) ≡ Some i
-  search_here f i n h p = ap (place o j i) (rows_more f i n h) ∙ place_yes i (f i) (rows f (i + 1) (n - (i + 1))) p
+  place_rows : (f : ℕ → Listed) (k i n : ℕ) → position_from (λ x. is_of o j (f x)) k (range_with_len i n) ≡ place o j k (rows f i n)
+  unfolding place rows
+  place_rows f k i zero = refl
+  place_rows f k i (suc n) = ap (cond (is_of o j (f i)) (Some k)) (place_rows f (k + 1) (i + 1) n)
 
-  pub search_more : (f : ℕ → Listed) (i n : ℕ) → i < n → is_of o j (f i) ≡ false → place o j i (rows f i (n - i)) ≡ place o j (i + 1) (rows f (i + 1) (n - (i + 1)))
-  search_more f i n h p = ap (place o j i) (rows_more f i n h) ∙ place_no i (f i) (rows f (i + 1) (n - (i + 1))) p
-
-  pub search_none : (f : ℕ → Listed) (i n : ℕ) → n ≤ i → place o j i (rows f i (n - i)) ≡ None
-  unfolding place
-  search_none f i n h = ap (place o j i) (rows_none f i n h)
+  -- the first of the places that passes
+  pub place_found : (f : ℕ → Listed) (n : ℕ) → position (λ x. is_of o j (f x)) (range_with_len 0 n) ≡ place o j 0 (rows f 0 n)
+  place_found f n = position_from-zero (λ x. is_of o j (f x)) (range_with_len 0 n) ∙ place_rows f 0 0 n
 
 -- a found line in its columns
 module _ (os hs ss cs : List ℕ) (n : ℕ) (ls : n ≤ length ss) (lc : n ≤ length cs) (o j s c : ℕ) where

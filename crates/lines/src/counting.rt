@@ -44,7 +44,7 @@ impl Lines<'_> {
         ensures numbered { Numbered self.old i census.0 self.new }
         ensures lent { Lent self.old self.new }
     {
-        let other = self.censuses[i] != census.0;
+        let other = Census(self.censuses[i]) != census;
         self.censuses[i] = census.0;
         other
     }
@@ -122,14 +122,14 @@ impl Lines<'_> {
 fn is_other(line: Line, census: Census) -> bool
     ensures { result ≡ not (line.census.0 == census.0) }
 {
-    line.census.0 != census.0
+    line.census != census
 }
 
 // Whether the holder is not known to have seen the stamp of this line.
 fn is_unheard(line: Line, stamps: &Stamps) -> bool
     ensures { result ≡ nat_lt (heard_from stamps.now line.holder.0) line.stamp.0 }
 {
-    line.stamp.0 > stamps.heard_from(line.holder).0
+    line.stamp > stamps.heard_from(line.holder)
 }
 
 // Whether the line has the number after a join.

@@ -58,12 +58,7 @@ impl Lines<'_> {
         ensures place { result ≡ place object.0 holder.0 0 (lines self.now) }
         ensures within { IfSome result (λ k. k < self.now.len) }
     {
-        for i in 0..self.len {
-            if self.is_at(i, object, holder) {
-                return Some(i);
-            }
-        }
-        None
+        (0..self.len).position(|i| self.is_at(i, object, holder))
     }
 
     // The line at place `i`.
@@ -120,7 +115,7 @@ impl Lines<'_> {
     fn takes(&self, object: Name, holder: House) -> bool
         ensures { result ≡ belongs self.now.home.0 self.now.houses object.0 holder.0 }
     {
-        object.home().0 == self.home.0 && holder.0 != self.home.0 && holder.0 < self.houses
+        object.home() == self.home && holder != self.home && holder.0 < self.houses
     }
 
     // Whether the line at place `i` is of `object` and `holder`.

@@ -1,4 +1,4 @@
-ghost use Rattle.std.specs.Prelude.{◌≡◌, ◌+◌, max, is_ok, if◌then◌else◌};
+ghost use Rattle.std.specs.Prelude.{◌≡◌, ◌+◌, max, is_ok, if◌then◌else◌, slice_index};
 ghost use Rattle.lines.specs.Stamping.{stamp as stamped, unstamped, given_to, seen_from, heard_from, with_given, with_seen, with_heard, next_for, seeing, hearing};
 
 use crate::stamps::Stamps;
@@ -20,34 +20,26 @@ impl Stamps {
     pub fn seen_from(&self, house: House) -> Stamp
         ensures { result ≡ stamped (seen_from self.now house.0) }
     {
-        if house.0 >= 16 {
-            return Stamp(0);
-        }
-        Stamp(self.seen[house.0 as usize])
+        stamp_of(&self.seen, house)
     }
 
     // The highest stamp that a house is known to have seen; 0 where it said none.
     pub fn heard_from(&self, house: House) -> Stamp
         ensures { result ≡ stamped (heard_from self.now house.0) }
     {
-        if house.0 >= 16 {
-            return Stamp(0);
-        }
-        Stamp(self.heard[house.0 as usize])
+        stamp_of(&self.heard, house)
     }
 
     // The stamp that the next reference for a house gets.
     pub fn next_for(&self, house: House) -> Result<Stamp, Refusal>
         ensures { result ≡ next_for house.0 self.now }
     {
-        if house.0 >= 16 {
-            return Err(Refusal::Malformed);
-        }
-        let last = self.given[house.0 as usize];
-        if last == 4294967295 {
-            return Err(Refusal::OutOfNumbers);
-        }
-        Ok(Stamp(last + 1))
+        let last = self
+            .given
+            .get(house.0 as usize)
+            .ok_or(Refusal::Malformed)?;
+        let next = last.checked_add(1).ok_or(Refusal::OutOfNumbers)?;
+        Ok(Stamp(next))
     }
 
     // A reference is given to a house, with the next stamp.
@@ -65,10 +57,8 @@ impl Stamps {
         ensures value { result ≡ seeing house.0 stamp.0 self.old }
         ensures after { self.new ≡ (if is_ok result then with_seen self.old house.0 stamp.0 else self.old) }
     {
-        if house.0 >= 16 {
-            return Err(Refusal::Malformed);
-        }
-        if stamp.0 <= self.seen[house.0 as usize] {
+        let seen = self.seen.get(house.0 as usize).ok_or(Refusal::Malformed)?;
+        if stamp.0 <= *seen {
             return Err(Refusal::OldStamp);
         }
         self.seen[house.0 as usize] = stamp.0;
@@ -80,10 +70,15 @@ impl Stamps {
         ensures value { result ≡ hearing house.0 }
         ensures after { self.new ≡ (if is_ok result then with_heard self.old house.0 (max (heard_from self.old house.0) stamp.0) else self.old) }
     {
-        if house.0 >= 16 {
-            return Err(Refusal::Malformed);
-        }
-        self.heard[house.0 as usize] = self.heard[house.0 as usize].max(stamp.0);
+        let heard = self.heard.get(house.0 as usize).ok_or(Refusal::Malformed)?;
+        self.heard[house.0 as usize] = stamp.0.max(*heard);
         Ok(())
     }
+}
+
+// What stands for a house in one of the three rows.
+fn stamp_of(row: &[u32; 16], house: House) -> Stamp
+    ensures { result ≡ stamped (slice_index row.now house.0) }
+{
+    Stamp(row.get(house.0 as usize).copied().unwrap_or(0))
 }

@@ -1,5 +1,5 @@
-ghost use Rattle.std.specs.Prelude.{◌≡◌, ◌+◌, ◌*◌, ◌≤◌, true, length};
-ghost use Rattle.wire.specs.Format.{numbers, rising, u32_at};
+ghost use Rattle.std.specs.Prelude.{◌≡◌, true};
+ghost use Rattle.wire.specs.Format.{numbers, rising};
 ghost use Rattle.lines.specs.Laws.{Again, Survives};
 ghost use Rattle.lines.specs.Listed.{is_in, goes, heard_of};
 ghost use Rattle.lines.specs.Lists.{lines, listing, Lent};
@@ -35,41 +35,16 @@ fn gone(line: Line, from: House, stamp: Stamp, objects: &[u8]) -> bool
     requires { Ascending (numbers objects.now) }
     ensures { result ≡ goes from.0 (numbers objects.now) stamp.0 (listing line) }
 {
-    line.holder.0 == from.0 && line.stamp.0 <= stamp.0 && !holds(objects, line.object)
+    line.holder == from && line.stamp <= stamp && !holds(objects, line.object)
 }
 
-// Whether the object is among those of a part, which rise: the half that cannot hold it is left out at each turn.
+// Whether the object is among those of a part, which rise.
 fn holds(objects: &[u8], object: Name) -> bool
     requires { Ascending (numbers objects.now) }
     ensures { result ≡ is_in object.0 (numbers objects.now) }
 {
-    let mut low = 0;
-    let mut high = objects.len() / 4;
-    while low < high {
-        let middle = low + (high - low) / 2;
-        let here = number_at(objects, middle);
-        if here == object.0 {
-            return true;
-        }
-        if here < object.0 {
-            low = middle + 1;
-        } else {
-            high = middle;
-        }
-    }
-    false
-}
-
-// The number at place `i` of a part.
-fn number_at(objects: &[u8], i: usize) -> u32
-    requires { 4 * i + 4 ≤ length objects.now }
-    ensures { result ≡ u32_at objects.now (4 * i) }
-{
-    let at = 4 * i;
-    u32::from_be_bytes([
-        objects[at],
-        objects[at + 1],
-        objects[at + 2],
-        objects[at + 3],
-    ])
+    let (numbers, _) = objects.as_chunks::<4>();
+    numbers
+        .binary_search_by_key(&object.0, |number| u32::from_be_bytes(*number))
+        .is_ok()
 }

@@ -1,12 +1,14 @@
-use Rattle.std.proofs.Common.{sym, ◌∙◌, rules}
-use Rattle.lines.proofs.Places.{search_here, search_more, search_none}
+use Rattle.std.proofs.Common.{◌∙◌, refl, arith, rules, tests}
+use Rattle.std.proofs.lemmas.Iterator.{YieldsList-from_range}
+use Rattle.std.proofs.lemmas.Iterator.Search.{position_from_yields_List}
+use Rattle.lines.specs.Listed.{is_of}
+use Rattle.lines.specs.Lists.{row_of}
+use Rattle.lines.proofs.Places.{place_found}
 use Rattle.lines.proofs.table.Lines.find.Goals as goal
 
-pub returns-then-is_at : goal.returns-then-is_at
-returns-then-is_at c = record { place = sym (c.loop-i.invariant ∙ search_here c.args.object.0 c.args.holder.0 _ c.loop-i.i c.args.self.now.len c.loop-i-test.true (sym c.if-is_at.ensures)); within = search rules }
-
-pub loop-i-preserved : goal.loop-i-preserved
-loop-i-preserved c = c.loop-i.invariant ∙ search_more c.args.object.0 c.args.holder.0 _ c.loop-i.i c.args.self.now.len c.loop-i-test.true (sym c.if-is_at.ensures)
-
-pub returns : goal.returns
-returns c = record { place = sym (c.loop-i.invariant ∙ search_none c.args.object.0 c.args.holder.0 _ c.loop-i.i c.args.self.now.len c.loop-i-test.false); within = tt }
+pub returns-clause-place : goal.returns-clause-place
+returns-clause-place c =
+    let t = c.args.self.now in
+    position_from_yields_List (λ i. is_of c.args.object.0 c.args.holder.0 (row_of t i)) _ _ c.position.result c.position.ensures.ran
+        (YieldsList-from_range 0 t.len t.len refl (omega arith)) (λ x b q k. search (rules, tests))
+    ∙ place_found c.args.object.0 c.args.holder.0 (row_of t) t.len
