@@ -1,73 +1,81 @@
--- The objects of a list gathered one by one.
-use Rattle.std.proofs.Common.{◌≡◌, ℕ, ◌+◌, ◌-◌, ◌<◌, ◌≤◌, Bool, true, false, cond, ◌||◌, eqb, ltb, List, [], ◌∷◌, ◌++◌, map, length, take, set, sym, refl, ap, ◌∙◌, append_assoc, arith, length-set}
+-- The objects of the lines that pass a test, gathered one by one.
+use Rattle.std.proofs.Common.{◌≡◌, ℕ, ◌+◌, ◌-◌, ◌<◌, ◌≤◌, Bool, true, false, cond, ◌||◌, ◌==◌, ltb, eqb, List, [], ◌∷◌, ◌++◌, map, length, take, set, sym, refl, ap, ◌∙◌, subst, append_assoc, arith, length-set}
 use Rattle.std.proofs.lemmas.List.{append-nil, take_more_set}
-use Rattle.std.proofs.lemmas.Bool.{cond-true, cond-false, eq-eqb, ne_eqb}
+use Rattle.std.proofs.lemmas.Bool.{eq-eqb}
+use Rattle.std.specs.List.{filter}
 use Rattle.wire.specs.Names.{name}
 use Rattle.wire.specs.declared.names.Name.{Name}
 use Rattle.lines.specs.Listed.{Listed, objects_listed, objects_in, joined, joins}
 use Rattle.lines.specs.Columns.{rows}
-use Rattle.lines.proofs.Rows.{rows_more, rows_none}
+use Rattle.lines.specs.Lists.{shown, Decides}
+use Rattle.lines.specs.declared.line.Line.{Line}
+use Rattle.lines.proofs.Rows.{passed, failed, passed_none}
 
--- k objects are gathered in xs, and those of `rest` are left
-pub record Gathering (all : List ℕ) (xs : List Name) (k : ℕ) (rest : List ℕ) : Type 0 where
+abbrev pub names : List Listed → List Name
+names = map (λ e. name e.object)
+
+-- n rows have been gone through up to place i, and the objects of the k that passed are gathered in xs
+pub record Gathering (post : Line → Bool → Type 0) (f : ℕ → Listed) (n i k : ℕ) (xs : List Name) : Type 0 where
   pub long : length xs ≡ 2048
-  pub left : map name all ≡ take k xs ++ map name rest
+  pub behind : k ≤ i
+  pub left : (p : Listed → Bool) → Decides post p → names (filter p (rows f 0 n)) ≡ take k xs ++ names (filter p (rows f i (n - i)))
 
-pub gathering_none : (all : List ℕ) (xs : List Name) (rest : List ℕ) → length xs ≡ 2048 → all ≡ rest → Gathering all xs 0 rest
-gathering_none all xs rest l e = record { long = l; left = ap (map name) e }
+module _ {post : Line → Bool → Type 0} {f : ℕ → Listed} {n : ℕ} where
+  pub gathering_none : (xs : List Name) → length xs ≡ 2048 → Gathering post f n 0 0 xs
+  gathering_none xs l = let m : n ≡ n - 0 = omega arith in record { long = l; behind = omega arith; left = λ p d. ap (λ k. names (filter p (rows f 0 k))) m }
 
-pub gathering_more : (all : List ℕ) (xs : List Name) (k o : ℕ) (rest on : List ℕ) → Gathering all xs k rest → k < 2048 → rest ≡ o ∷ on → Gathering all (set xs k (name o)) (k + 1) on
-gathering_more all xs k o rest on w h e =
-    let l : k < length xs = omega (arith, w.long) in
-    record {
-      long = length-set xs k (name o) ∙ w.long;
-      left = w.left ∙ ap (λ r. take k xs ++ map name r) e ∙ sym (append_assoc (take k xs) (name o ∷ []) (map name on)) ∙ ap (λ r. r ++ map name on) (sym (take_more_set xs k (name o) l));
+  module _ {i k : ℕ} {xs : List Name} (w : Gathering post f n i k xs) (h : i < n) (l : Line) (is : l ≡ shown (f i)) where
+    told : (p : Listed → Bool) → Decides post p → (b : Bool) → post l b → p (f i) ≡ b
+    told p d b r = sym (d (f i) b (subst (λ x. post x b) is r))
+
+    pub gathering_more : n ≤ 2048 → post l true → Gathering post f n (i + 1) (k + 1) (set xs k l.object)
+    gathering_more few r =
+        let here : k < length xs = omega (arith, w.long, w.behind) in
+        let rest = λ (p : Listed → Bool). names (filter p (rows f (i + 1) (n - (i + 1)))) in
+        record {
+          long = length-set xs k l.object ∙ w.long;
+          behind = omega (arith, w.behind);
+          left = λ p d.
+              w.left p d ∙ ap (λ r. take k xs ++ names r) (passed p f i n h (told p d true r))
+              ∙ ap (λ o. take k xs ++ o ∷ rest p) (sym (ap (λ x. x.object) is))
+              ∙ sym (append_assoc (take k xs) (l.object ∷ []) (rest p)) ∙ ap (λ r. r ++ rest p) (sym (take_more_set xs k l.object here));
+        }
+
+    pub gathering_same : post l false → Gathering post f n (i + 1) k xs
+    gathering_same r = record {
+      long = w.long;
+      behind = omega (arith, w.behind);
+      left = λ p d. w.left p d ∙ ap (λ r. take k xs ++ names r) (failed p f i n h (told p d false r));
     }
 
-pub gathering_same : (all : List ℕ) (xs : List Name) (k : ℕ) (rest on : List ℕ) → Gathering all xs k rest → rest ≡ on → Gathering all xs k on
-gathering_same all xs k rest on w e = record { long = w.long; left = w.left ∙ ap (λ r. take k xs ++ map name r) e }
+  pub gathering_all : {i k : ℕ} {xs : List Name} → Gathering post f n i k xs → n ≤ i → (p : Listed → Bool) → Decides post p → take k xs ≡ names (filter p (rows f 0 n))
+  gathering_all {i} {k} {xs} w h p d = sym (w.left p d ∙ ap (λ r. take k xs ++ names r) (passed_none p f i n h) ∙ append-nil (take k xs))
 
-pub gathering_all : (all : List ℕ) (xs : List Name) (k : ℕ) (rest : List ℕ) → Gathering all xs k rest → rest ≡ [] → take k xs ≡ map name all
-gathering_all all xs k rest w e = sym (w.left ∙ ap (λ r. take k xs ++ map name r) e ∙ append-nil (take k xs))
+pub names_listed : (es : List Listed) → names (filter (λ e. true) es) ≡ map name (objects_listed es)
+unfolding objects_listed
+names_listed [] = refl
+names_listed (e ∷ es) = ap (λ r. name e.object ∷ r) (names_listed es)
 
-module _ (f : ℕ → Listed) (i n : ℕ) where
-  pub listed_more : i < n → objects_listed (rows f i (n - i)) ≡ (f i).object ∷ objects_listed (rows f (i + 1) (n - (i + 1)))
-  unfolding objects_listed
-  listed_more h = ap objects_listed (rows_more f i n h)
+pub names_in : (c : ℕ) (es : List Listed) → names (filter (λ e. e.census == c) es) ≡ map name (objects_in c es)
+unfolding objects_in
+names_in c [] = refl
+names_in c (e ∷ es) =
+    elim (e.census == c) as (λ b. names (cond b (e ∷ filter (λ x. x.census == c) es) (filter (λ x. x.census == c) es)) ≡ map name (cond b (e.object ∷ objects_in c es) (objects_in c es)))
+    [ true ↦ ap (λ r. name e.object ∷ r) (names_in c es) | false ↦ names_in c es ]
 
-  pub listed_none : n ≤ i → objects_listed (rows f i (n - i)) ≡ []
-  unfolding objects_listed
-  listed_none h = ap objects_listed (rows_none f i n h)
-
-  pub in_more : (c : ℕ) → i < n → (f i).census ≡ c → objects_in c (rows f i (n - i)) ≡ (f i).object ∷ objects_in c (rows f (i + 1) (n - (i + 1)))
-  unfolding objects_in
-  in_more c h e = ap (objects_in c) (rows_more f i n h) ∙ cond-true _ _ _ (eq-eqb (f i).census c e)
-
-  pub in_other : (c : ℕ) → i < n → ((f i).census ≡ c → ⊥) → objects_in c (rows f i (n - i)) ≡ objects_in c (rows f (i + 1) (n - (i + 1)))
-  unfolding objects_in
-  in_other c h e = ap (objects_in c) (rows_more f i n h) ∙ cond-false _ _ _ (ne_eqb (f i).census c e)
-
-  pub in_none : (c : ℕ) → n ≤ i → objects_in c (rows f i (n - i)) ≡ []
-  unfolding objects_in
-  in_none c h = ap (objects_in c) (rows_none f i n h)
-
-joining_cons : (c : ℕ) (heard : ℕ → ℕ) (e : Listed) (es : List Listed) (b d : Bool) → ltb (heard e.holder) e.stamp ≡ b → eqb e.census c ≡ d →
+-- one line more, by whether it is unheard and whether it has the number
+joined_line : (c : ℕ) (heard : ℕ → ℕ) (e : Listed) (es : List Listed) (b d : Bool) → ltb (heard e.holder) e.stamp ≡ b → eqb e.census c ≡ d →
     objects_in c (joined c heard (e ∷ es)) ≡ cond (b || d) (e.object ∷ objects_in c (joined c heard es)) (objects_in c (joined c heard es))
 unfolding objects_in joined
-joining_cons c heard e es true d p q = rw (p, eq-eqb c c refl)
-joining_cons c heard e es false d p q = rw (p, q)
+joined_line c heard e es true d p q = rw (p, eq-eqb c c refl)
+joined_line c heard e es false d p q = rw (p, q)
 
-module _ (f : ℕ → Listed) (i n c : ℕ) (heard : ℕ → ℕ) where
-  joining : i < n → (b : Bool) → joins c heard (f i) ≡ b →
-      objects_in c (joined c heard (rows f i (n - i))) ≡ cond b ((f i).object ∷ objects_in c (joined c heard (rows f (i + 1) (n - (i + 1))))) (objects_in c (joined c heard (rows f (i + 1) (n - (i + 1)))))
-  joining h b e = ap (λ es. objects_in c (joined c heard es)) (rows_more f i n h) ∙ joining_cons c heard (f i) _ _ _ refl refl ∙ ap (λ t. cond t ((f i).object ∷ objects_in c (joined c heard (rows f (i + 1) (n - (i + 1))))) (objects_in c (joined c heard (rows f (i + 1) (n - (i + 1)))))) e
-
-  pub joining_more : i < n → joins c heard (f i) ≡ true → objects_in c (joined c heard (rows f i (n - i))) ≡ (f i).object ∷ objects_in c (joined c heard (rows f (i + 1) (n - (i + 1))))
-  joining_more h e = joining h true e
-
-  pub joining_other : i < n → joins c heard (f i) ≡ false → objects_in c (joined c heard (rows f i (n - i))) ≡ objects_in c (joined c heard (rows f (i + 1) (n - (i + 1))))
-  joining_other h e = joining h false e
-
-  pub joining_none : n ≤ i → objects_in c (joined c heard (rows f i (n - i))) ≡ []
-  unfolding objects_in joined
-  joining_none h = ap (λ es. objects_in c (joined c heard es)) (rows_none f i n h)
+pub names_joining : (c : ℕ) (heard : ℕ → ℕ) (es : List Listed) → names (filter (joins c heard) es) ≡ map name (objects_in c (joined c heard es))
+unfolding objects_in joined
+names_joining c heard [] = refl
+names_joining c heard (e ∷ es) =
+    let J = objects_in c (joined c heard es) in
+    let step : names (filter (joins c heard) (e ∷ es)) ≡ map name (cond (joins c heard e) (e.object ∷ J) J) =
+        elim (joins c heard e) as (λ b. names (cond b (e ∷ filter (joins c heard) es) (filter (joins c heard) es)) ≡ map name (cond b (e.object ∷ J) J))
+        [ true ↦ ap (λ r. name e.object ∷ r) (names_joining c heard es) | false ↦ names_joining c heard es ] in
+    step ∙ ap (map name) (sym (joined_line c heard e es _ _ refl refl))

@@ -1,6 +1,7 @@
 -- Laws of rows, and of columns with one more line.
-use Rattle.std.proofs.Common.{◌≡◌, ℕ, zero, suc, ◌+◌, ◌-◌, ◌<◌, ◌≤◌, ◌≢◌, List, [], ◌∷◌, ◌++◌, length, get_or, set, Some, None, sym, refl, ap, ◌∙◌, subst, ⊎_elim, add-one, arith, get_or-set_other, get_or-set_same}
-use Rattle.std.proofs.lemmas.Bool.{cases_eq}
+use Rattle.std.proofs.Common.{◌≡◌, ℕ, zero, suc, ◌+◌, ◌-◌, ◌<◌, ◌≤◌, Bool, true, false, ◌≢◌, List, [], ◌∷◌, ◌++◌, length, get_or, set, Some, None, sym, refl, ap, ◌∙◌, subst, ⊎_elim, add-one, arith, get_or-set_other, get_or-set_same}
+use Rattle.std.proofs.lemmas.Bool.{cases_eq, cond-true, cond-false}
+use Rattle.std.specs.List.{filter}
 use Rattle.wire.specs.Names.{home}
 use Rattle.lines.specs.Listed.{Listed, line}
 use Rattle.lines.specs.Columns.{rows, Alone, Own, Far}
@@ -14,6 +15,17 @@ rows_more f i n h = let e : n - i ≡ suc (n - (i + 1)) = omega arith in rw e
 pub rows_none : (f : ℕ → Listed) (i n : ℕ) → n ≤ i → rows f i (n - i) ≡ []
 unfolding rows
 rows_none f i n h = let e : n - i ≡ 0 = omega arith in rw e
+
+-- the rows that pass a test
+module _ (p : Listed → Bool) (f : ℕ → Listed) (i n : ℕ) where
+  pub passed : i < n → p (f i) ≡ true → filter p (rows f i (n - i)) ≡ f i ∷ filter p (rows f (i + 1) (n - (i + 1)))
+  passed h e = ap (filter p) (rows_more f i n h) ∙ cond-true (p (f i)) _ _ e
+
+  pub failed : i < n → p (f i) ≡ false → filter p (rows f i (n - i)) ≡ filter p (rows f (i + 1) (n - (i + 1)))
+  failed h e = ap (filter p) (rows_more f i n h) ∙ cond-false (p (f i)) _ _ e
+
+  pub passed_none : n ≤ i → filter p (rows f i (n - i)) ≡ []
+  passed_none h = ap (filter p) (rows_none f i n h)
 
 pub length_rows : (f : ℕ → Listed) (i n : ℕ) → length (rows f i n) ≡ n
 unfolding rows

@@ -1,5 +1,5 @@
 -- The list that lent columns hold.
-use Rattle.std.specs.Prelude.{◌≡◌, ℕ, zero, suc, ◌+◌, ◌<◌, cond, List, [], ◌∷◌, length, Some, None, Ok, Err, Option, Result, slice_set}
+use Rattle.std.specs.Prelude.{◌≡◌, ℕ, zero, suc, ◌+◌, ◌<◌, Bool, cond, List, [], ◌∷◌, length, Some, None, Ok, Err, Option, Result, slice_set}
 use Rattle.wire.specs.declared.refusal.Refusal.{Refusal}
 use Rattle.wire.specs.declared.refusal.Refusal.TheVariants.{Malformed, NoRoom}
 use Rattle.wire.specs.Names.{house, name}
@@ -20,6 +20,10 @@ shown e = record { object = name e.object; holder = house e.holder; stamp = reco
 
 abbrev pub listing : Line → Listed
 listing l = line l.object.0 l.holder.0 l.stamp.0 l.census.0
+
+-- the calls of a test of lines answer what p says of each
+abbrev pub Decides : (Line → Bool → Type 0) → (Listed → Bool) → Type 0
+Decides post p = (e : Listed) (b : Bool) → post (shown e) b → b ≡ p e
 
 unfoldable pub line_at : ℕ → List Listed → Option Line
 line_at i [] = None

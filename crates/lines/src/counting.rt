@@ -1,8 +1,9 @@
-ghost use Rattle.std.specs.Prelude.{◌≡◌, ◌<◌, ◌≤◌, not, ◌&&◌, map, take, ◌==◌, nat_lt, slice_index};
+ghost use Rattle.std.specs.Prelude.{◌≡◌, ◌<◌, not, ◌&&◌, map, ◌==◌, nat_lt, slice_index};
+ghost use Rattle.std.specs.List.{filter};
 ghost use Rattle.wire.specs.Names.{name};
 ghost use Rattle.lines.specs.Laws.{Raises, LeavesUnheard};
-ghost use Rattle.lines.specs.Listed.{listed, listed_in, joined, joins, marked, swept, objects_listed, objects_in};
-ghost use Rattle.lines.specs.Lists.{lines, listing, Lent, Numbered};
+ghost use Rattle.lines.specs.Listed.{listed, listed_in, joined, marked, swept, objects_listed, objects_in};
+ghost use Rattle.lines.specs.Lists.{lines, Decides, Lent, Numbered};
 ghost use Rattle.lines.specs.Stamping.{heard_from};
 
 use crate::line::Line;
@@ -59,46 +60,53 @@ impl Lines<'_> {
         self.censuses[at] == census.0
     }
 
-    // The objects of all lines, in their order, are written to the front of `into`; how many there are.
-    pub fn objects(&self, into: &mut [Name; 2048]) -> usize
-        ensures within { result ≤ 2048 }
-        ensures after { take result into.new ≡ map name (objects_listed (lines self.now)) }
+    // The objects of all lines, in their order, written to the front of `into`.
+    pub fn objects<'b>(&self, into: &'b mut [Name; 2048]) -> &'b [Name]
+        ensures { result.now ≡ map name (objects_listed (lines self.now)) }
     {
-        for i in 0..self.len {
-            into[i] = Name(self.objects[i]);
-        }
-        self.len
+        self.objects_where(|_| true, into)
     }
 
     // The same of the lines with this number.
-    pub fn objects_in(&self, census: Census, into: &mut [Name; 2048]) -> usize
-        ensures within { result ≤ 2048 }
-        ensures after { take result into.new ≡ map name (objects_in census.0 (lines self.now)) }
+    pub fn objects_in<'b>(&self, census: Census, into: &'b mut [Name; 2048]) -> &'b [Name]
+        ensures { result.now ≡ map name (objects_in census.0 (lines self.now)) }
     {
-        let mut count = 0;
-        for i in 0..self.len {
-            if self.censuses[i] == census.0 {
-                into[count] = Name(self.objects[i]);
-                count += 1;
-            }
-        }
-        count
+        self.objects_where(|line| line.census == census, into)
     }
 
     // The same of the lines that a join of this census now would give the number to, or that have it.
-    pub fn objects_joining(&self, census: Census, stamps: &Stamps, into: &mut [Name; 2048]) -> usize
-        ensures within { result ≤ 2048 }
-        ensures after { take result into.new ≡ map name (objects_in census.0 (joined census.0 (heard_from stamps.now) (lines self.now))) }
+    pub fn objects_joining<'b>(
+        &self,
+        census: Census,
+        stamps: &Stamps,
+        into: &'b mut [Name; 2048],
+    ) -> &'b [Name]
+        ensures { result.now ≡ map name (objects_in census.0 (joined census.0 (heard_from stamps.now) (lines self.now))) }
+    {
+        self.objects_where(
+            |line| is_unheard(line, stamps) || line.census == census,
+            into,
+        )
+    }
+
+    // The objects of the lines that pass the test, in their order, written to the front of `into`.
+    fn objects_where<'b, F: Fn(Line) -> bool>(
+        &self,
+        takes: F,
+        into: &'b mut [Name; 2048],
+    ) -> &'b [Name]
+        requires { F.IsAlwaysCallable takes }
+        ensures { (p : _) → Decides (F.post takes) p → result.now ≡ map (λ e. name e.object) (filter p (lines self.now)) }
     {
         let mut count = 0;
         for i in 0..self.len {
             let line = self.row(i);
-            if is_joining(line, census, stamps) {
+            if takes(line) {
                 into[count] = line.object;
                 count += 1;
             }
         }
-        count
+        &into[..count]
     }
 
     // Lines with another number go, the others close up in order.
@@ -107,22 +115,24 @@ impl Lines<'_> {
         ensures leaves { LeavesUnheard census.0 (lines self.old) (lines self.new) }
         ensures lent { Lent self.old self.new }
     {
+        self.retain(|line| line.census == census);
+    }
+
+    // The lines that pass the test stay, and close up in order.
+    pub(crate) fn retain<F: Fn(Line) -> bool>(&mut self, stays: F)
+        requires { F.IsAlwaysCallable stays }
+        ensures after { (p : _) → Decides (F.post stays) p → lines self.new ≡ filter p (lines self.old) }
+        ensures lent { Lent self.old self.new }
+    {
         let len = self.len;
         self.len = 0;
         for i in 0..len {
             let line = self.row(i);
-            if !is_other(line, census) {
+            if stays(line) {
                 self.push(line);
             }
         }
     }
-}
-
-// Whether the line has another number than this.
-fn is_other(line: Line, census: Census) -> bool
-    ensures { result ≡ not (line.census.0 == census.0) }
-{
-    line.census != census
 }
 
 // Whether the holder is not known to have seen the stamp of this line.
@@ -130,11 +140,4 @@ fn is_unheard(line: Line, stamps: &Stamps) -> bool
     ensures { result ≡ nat_lt (heard_from stamps.now line.holder.0) line.stamp.0 }
 {
     line.stamp > stamps.heard_from(line.holder)
-}
-
-// Whether the line has the number after a join.
-fn is_joining(line: Line, census: Census, stamps: &Stamps) -> bool
-    ensures { result ≡ joins census.0 (heard_from stamps.now) (listing line) }
-{
-    is_unheard(line, stamps) || !is_other(line, census)
 }

@@ -19,14 +19,7 @@ impl Lines<'_> {
         ensures survives { Survives stamp.0 (lines self.old) (lines self.new) }
         ensures lent { Lent self.old self.new }
     {
-        let len = self.len;
-        self.len = 0;
-        for i in 0..len {
-            let line = self.row(i);
-            if !gone(line, from, stamp, objects) {
-                self.push(line);
-            }
-        }
+        self.retain(|line| !gone(line, from, stamp, objects));
     }
 }
 
