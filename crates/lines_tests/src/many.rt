@@ -17,12 +17,9 @@ fn fill(list: &mut Lines) -> bool {
 
 // The first 2,000 objects of house 0, as a word has them.
 fn first_objects(part: &mut [u8; 8000]) {
-    for i in 0..2000usize {
-        let [a, b, c, d] = (16 * i as u32 + 16).to_be_bytes();
-        part[4 * i] = a;
-        part[4 * i + 1] = b;
-        part[4 * i + 2] = c;
-        part[4 * i + 3] = d;
+    let (places, _) = part.as_chunks_mut::<4>();
+    for (i, place) in places.iter_mut().enumerate() {
+        *place = (16 * i as u32 + 16).to_be_bytes();
     }
 }
 

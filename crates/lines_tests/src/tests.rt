@@ -1,5 +1,5 @@
 use crate::words::word;
-use lines::{Lines, Stamps};
+use lines::{Line, Lines, Stamps};
 use std::test::Fail;
 use wire::{Census, House, Name, Refusal, Stamp};
 
@@ -13,13 +13,13 @@ fn number(answer: Result<(), Refusal>) -> u8 {
 
 // Whether the line at place `i` is this one.
 fn is_line(list: &Lines, i: usize, object: u32, holder: u8, stamp: u32, census: u32) -> bool {
-    match list.line(i) {
-        Some(line) => line.object.0 == object
-            && line.holder.0 == holder
-            && line.stamp.0 == stamp
-            && line.census.0 == census,
-        None => false,
-    }
+    list.line(i)
+        == Some(Line {
+            object: Name(object),
+            holder: House(holder),
+            stamp: Stamp(stamp),
+            census: Census(census),
+        })
 }
 
 // An empty list finds nothing, and its calls change nothing.
@@ -153,10 +153,10 @@ fn a_census(rt: HostRuntime) {
     assert!(rt; list.mark(Name(32), House(1), Census(1)));
     let mut names = [Name(0); 2048];
     assert!(rt;
-        list.objects(&mut names) == 3 && names[0].0 == 16 && names[1].0 == 32 && names[2].0 == 48
+        list.objects(&mut names) == [Name(16), Name(32), Name(48)].as_slice()
     );
     assert!(rt;
-        list.objects_in(Census(1), &mut names) == 2 && names[0].0 == 32 && names[1].0 == 48
+        list.objects_in(Census(1), &mut names) == [Name(32), Name(48)].as_slice()
     );
     list.sweep(Census(1));
     assert!(rt;
@@ -173,8 +173,8 @@ fn stamping(rt: HostRuntime) -> Result<(), Fail> {
     assert!(rt; number(stamps.see(House(15), Stamp(7))) == 0);
     assert!(rt; number(stamps.see(House(15), Stamp(7))) == 7);
     assert!(rt; number(stamps.see(House(16), Stamp(1))) == 1);
-    assert!(rt; stamps.seen_from(House(15)).0 == 7 && stamps.heard_from(House(15)).0 == 0);
-    stamps.given[3] = 4294967295;
+    assert!(rt; stamps.seen_from(House(15)) == Stamp(7) && stamps.heard_from(House(15)) == Stamp(0));
+    stamps.given[3] = u32::MAX;
     match stamps.give(House(3)) {
         Ok(_) => Err(Fail::new("a stamp past the end")),
         Err(refusal) => {

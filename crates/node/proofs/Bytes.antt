@@ -37,9 +37,9 @@ pub found : (r : Result (Vec Name Global) AllocError) (P : ℕ → Type 0) (os :
 found (Ok v) P os sole l = sym (sole os l)
 found (Err e) P os sole l = tt
 
--- names that were written to the front of an array
-pub front : (xs : List Name) (n : ℕ) (os : List ℕ) → take n xs ≡ map name os → numbers (take (n - 0) xs) ≡ os
-front xs n os e = let z : n - 0 ≡ n = omega arith in ap (λ k. numbers (take k xs)) z ∙ ap numbers e ∙ numbers_names os
+-- names that are those of these numbers
+pub back : (xs : List Name) (os : List ℕ) → xs ≡ map name os → numbers xs ≡ os
+back xs os e = ap numbers e ∙ numbers_names os
 
 pub found_also : (r : Result (Vec Name Global) AllocError) (os qs : List ℕ) → os ≡ qs → IfOk r (λ v. numbers (vec_items v) ≡ os) → IfOk r (λ v. numbers (vec_items v) ≡ qs)
 found_also (Ok v) os qs e h = h ∙ e

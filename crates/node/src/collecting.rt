@@ -19,8 +19,7 @@ impl Head {
         ensures { Steps result collect (house_of self objects.old list.now) objects.new list.now }
     {
         let mut names = [Name(0); 2048];
-        let count = list.objects(&mut names);
-        collect_from(objects, &names[0..count]);
+        collect_from(objects, list.objects(&mut names));
         (self, Answer::Sends(Sent::Nothing))
     }
 
@@ -41,8 +40,8 @@ impl Head {
         ensures { IfOk result (λ v. numbers v.items ≡ used (house_of self.now objects.now list.now)) }
     {
         let mut names = [Name(0); 2048];
-        let count = list.objects_in(self.standing.census(), &mut names);
-        met_from(self.heap, objects, &names[0..count])
+        let listed = list.objects_in(self.standing.census(), &mut names);
+        met_from(self.heap, objects, listed)
     }
 
     // The far references that are in use once a census is joined, if it is above the own; nothing is joined yet.
@@ -58,8 +57,8 @@ impl Head {
             return self.in_use(objects, list);
         }
         let mut names = [Name(0); 2048];
-        let count = list.objects_joining(census, &self.stamps, &mut names);
-        met_from(self.heap, objects, &names[0..count])
+        let listed = list.objects_joining(census, &self.stamps, &mut names);
+        met_from(self.heap, objects, listed)
     }
 
     // All that is in use of other houses is told to them, until they answer.

@@ -8,7 +8,7 @@ use Rattle.node.specs.Executed.{names_in_use}
 use Rattle.node.specs.House.{census}
 use Rattle.node.specs.Shown.{house_of}
 use Rattle.node.specs.Step.{used, caught_up, in_census}
-use Rattle.node.proofs.Bytes.{front, found_also}
+use Rattle.node.proofs.Bytes.{back, found_also}
 use Rattle.node.proofs.head.Head.in_use_in.Goals as goal
 
 pub returns : goal.returns
@@ -19,5 +19,5 @@ returns c =
     let up : caught_up n h ≡ in_census n h = rw above in
     let listed = objects_in n (joined n (heard_from c.args.self.now.stamps) (lines c.args.list.now)) in
     found_also c.met_from.result _ _
-    (ap (λ l. names_in_use l (heap_of c.args.objects.now)) (front c.objects_joining-count.new.into c.objects_joining-count.result listed c.objects_joining-count.ensures.after) ∙ sym (ap used up))
+    (ap (λ l. names_in_use l (heap_of c.args.objects.now)) (back _ listed c.objects_joining-listed.ensures) ∙ sym (ap used up))
     c.met_from.ensures
