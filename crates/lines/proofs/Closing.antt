@@ -1,6 +1,5 @@
 -- A list that is closed up in place: the lines that pass a test stay, and follow in order.
-use Rattle.std.proofs.Common.{◌≡◌, ℕ, ◌+◌, ◌-◌, ◌<◌, ◌≤◌, Bool, true, false, cond, not, ◌==◌, ◌≢◌, List, [], ◌∷◌, ◌++◌, get_or, sym, refl, ap, ◌∙◌, subst, ⊎_elim, append_assoc, arith}
-use Rattle.std.proofs.lemmas.List.{append-nil}
+use Rattle.std.proofs.Common.{◌≡◌, ℕ, ◌+◌, ◌<◌, ◌≤◌, Bool, true, false, cond, not, ◌==◌, ◌≢◌, List, [], ◌∷◌, ◌++◌, get_or, sym, refl, ap, ◌∙◌, subst, ⊎_elim, arith}
 use Rattle.std.proofs.lemmas.Bool.{cases_eq}
 use Rattle.std.specs.List.{filter}
 use Rattle.wire.specs.Names.{home}
@@ -9,7 +8,7 @@ use Rattle.lines.specs.Columns.{rows, Alone, Own, Far}
 use Rattle.lines.specs.Lists.{lines, row_of, shown, Decides, Lent, Pushed, Ready}
 use Rattle.lines.specs.declared.line.Line.{Line}
 use Rattle.lines.specs.declared.table.Lines.{Lines}
-use Rattle.lines.proofs.Rows.{passed, failed, passed_none, pushed_other, pushed_here, pushed_lines, Fresh, fresh_ready}
+use Rattle.lines.proofs.Rows.{passed, failed, pushed_other, pushed_here, pushed_lines, fresh_ready}
 
 pub heard_kept : (j : ℕ) (held : List ℕ) (upto : ℕ) (es : List Listed) → filter (λ e. not (goes j held upto e)) es ≡ heard_of j held upto es
 unfolding heard_of
@@ -57,20 +56,17 @@ lent_same t = record {
 pub record Turn (post : Line → Bool → Type 0) (s : Lines) (n i : ℕ) (t : Lines) : Type 0 where
   pub behind : t.len ≤ i
   pub rest : (x : ℕ) → i ≤ x → row_of t x ≡ row_of s x
-  pub left : (p : Listed → Bool) → Decides post p → filter p (rows (row_of s) 0 n) ≡ lines t ++ filter p (rows (row_of s) i (n - i))
+  pub kept : (p : Listed → Bool) → Decides post p → lines t ≡ filter p (rows (row_of s) 0 i)
   pub apart : (x y : ℕ) → x < t.len → i ≤ y → y < n → (row_of t x).object ≡ (row_of s y).object → (row_of t x).holder ≡ (row_of s y).holder → ⊥
   pub lent : Lent s t
 
 module _ {post : Line → Bool → Type 0} {s : Lines} {n : ℕ} where
   pub turn_none : s.len ≡ 0 → Turn post s n 0 s
-  unfolding rows
   turn_none z =
-      let e : lines s ≡ [] = ap (rows (row_of s) 0) z in
-      let m : n ≡ n - 0 = omega arith in
       record {
         behind = omega arith;
         rest = λ x h. refl;
-        left = λ p d. rw e (ap (λ k. filter p (rows (row_of s) 0 k)) m);
+        kept = λ p d. ap (rows (row_of s) 0) z;
         apart = λ x y a b d q r. omega arith;
         lent = lent_same s;
       }
@@ -87,7 +83,7 @@ module _ {post : Line → Bool → Type 0} {s : Lines} {n : ℕ} where
     turn_gone u q l is k = subst (Turn post s n (i + 1)) (sym q) (record {
       behind = omega (arith, w.behind);
       rest = λ x b. w.rest x (omega arith);
-      left = λ p d. w.left p d ∙ ap (λ r. lines t ++ r) (failed p (row_of s) i n h (told p d l is false k));
+      kept = λ p d. w.kept p d ∙ sym (failed p (row_of s) i (told p d l is false k));
       apart = λ x y a b d q r. w.apart x y a (omega arith) d q r;
       lent = w.lent;
     })
@@ -103,10 +99,9 @@ module _ {post : Line → Bool → Type 0} {s : Lines} {n : ℕ} where
         subst (Turn post s n (i + 1)) (sym q) (record {
           behind = omega arith;
           rest = λ x b. sym (others x (λ q. omega arith)) ∙ w.rest x (omega arith);
-          left = λ p d.
-              w.left p d ∙ ap (λ r. lines t ++ r) (passed p f i n h (told p d l is true k))
-              ∙ sym (append_assoc (lines t) (f i ∷ []) (filter p (rows f (i + 1) (n - (i + 1)))))
-              ∙ ap (λ r. r ++ filter p (rows f (i + 1) (n - (i + 1)))) (sym (pushed_lines t v (row_of t i) pushed fits ∙ ap (λ r. lines t ++ r ∷ []) same));
+          kept = λ p d.
+              pushed_lines t v (row_of t i) pushed fits ∙ ap (λ r. r ++ row_of t i ∷ []) (w.kept p d) ∙ ap (λ r. filter p (rows f 0 i) ++ r ∷ []) same
+              ∙ sym (passed p f i (told p d l is true k));
           apart = λ x y a b d q r.
               ⊎_elim
               (λ m.
@@ -133,5 +128,5 @@ module _ {post : Line → Bool → Type 0} {s : Lines} {n : ℕ} where
           alone = λ k a q r. w.apart k i a (omega arith) h (q ∙ o) (r ∙ j);
         })
 
-  pub turn_all : {i : ℕ} {t : Lines} → Turn post s n i t → n ≤ i → (p : Listed → Bool) → Decides post p → lines t ≡ filter p (rows (row_of s) 0 n)
-  turn_all {i} {t} w h p d = sym (w.left p d ∙ ap (λ r. lines t ++ r) (passed_none p (row_of s) i n h) ∙ append-nil (lines t))
+  pub turn_all : {i : ℕ} {t : Lines} → Turn post s n i t → n ≤ i → i ≤ n → (p : Listed → Bool) → Decides post p → lines t ≡ filter p (rows (row_of s) 0 n)
+  turn_all {i} {t} w h l p d = let e : i ≡ n = omega arith in w.kept p d ∙ ap (λ k. filter p (rows (row_of s) 0 k)) e

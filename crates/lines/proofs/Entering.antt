@@ -6,7 +6,8 @@ use Rattle.wire.specs.Names.{home}
 use Rattle.lines.specs.Listed.{belongs, fits, listed, line, place, entered}
 use Rattle.lines.specs.Lists.{lines, row_of, entering, Pushed, Ready, Changed}
 use Rattle.lines.specs.declared.table.Lines.{Lines}
-use Rattle.lines.proofs.Rows.{length_rows, pushed_lines, fresh_ready}
+use Rattle.std.proofs.lemmas.List.FromFn.{length-map-range_with_len}
+use Rattle.lines.proofs.Rows.{pushed_lines, fresh_ready}
 use Rattle.lines.proofs.Places.{listed_place, entered_none, unplaced, model_found}
 
 module _ (t : Lines) (o j : ℕ) (in' : true ≡ belongs t.home.0 t.houses o j) where
@@ -16,12 +17,12 @@ module _ (t : Lines) (o j : ℕ) (in' : true ≡ belongs t.home.0 t.houses o j) 
   pub enter_full : None ≡ place o j 0 (lines t) → t.room ≤ t.len → Err NoRoom ≡ entering t.home.0 t.houses t.room o j (lines t)
   enter_full e h =
       let l : listed o j (lines t) ≡ false = sym (listed_place o j 0 (lines t)) ∙ ap is_some (sym e) in
-      let f : fits o j (lines t) t.room ≡ false = or_from _ _ l (le-ltb (length (lines t)) t.room (rw length_rows h)) in
+      let f : fits o j (lines t) t.room ≡ false = or_from _ _ l (le-ltb (length (lines t)) t.room (rw length-map-range_with_len h)) in
       sym (answer ∙ ap (λ b. cond b (Ok tt) (Err NoRoom)) f)
 
   pub enter_new : t.len < t.room → Ok tt ≡ entering t.home.0 t.houses t.room o j (lines t)
   enter_new h =
-      let f : fits o j (lines t) t.room ≡ true = or_right _ _ (lt-ltb (length (lines t)) t.room (rw length_rows h)) in
+      let f : fits o j (lines t) t.room ≡ true = or_right _ _ (lt-ltb (length (lines t)) t.room (rw length-map-range_with_len h)) in
       sym (answer ∙ ap (λ b. cond b (Ok tt) (Err NoRoom)) f)
 
   pub enter_found : (k : ℕ) → Some k ≡ place o j 0 (lines t) → Ok tt ≡ entering t.home.0 t.houses t.room o j (lines t)

@@ -1,6 +1,6 @@
 -- The objects of the lines that pass a test, gathered one by one.
-use Rattle.std.proofs.Common.{◌≡◌, ℕ, ◌+◌, ◌-◌, ◌<◌, ◌≤◌, Bool, true, false, cond, ◌||◌, ◌==◌, ltb, eqb, List, [], ◌∷◌, ◌++◌, map, length, take, set, sym, refl, ap, ◌∙◌, subst, append_assoc, arith, length-set}
-use Rattle.std.proofs.lemmas.List.{append-nil, take_more_set}
+use Rattle.std.proofs.Common.{◌≡◌, ℕ, ◌+◌, ◌<◌, ◌≤◌, Bool, true, false, cond, ◌||◌, ◌==◌, ltb, eqb, List, [], ◌∷◌, ◌++◌, map, length, take, set, sym, refl, ap, ◌∙◌, subst, arith, length-set}
+use Rattle.std.proofs.lemmas.List.{take_more_set, map-append}
 use Rattle.std.proofs.lemmas.Bool.{eq-eqb}
 use Rattle.std.specs.List.{filter}
 use Rattle.wire.specs.Names.{name}
@@ -9,47 +9,43 @@ use Rattle.lines.specs.Listed.{Listed, objects_listed, objects_in, joined, joins
 use Rattle.lines.specs.Columns.{rows}
 use Rattle.lines.specs.Lists.{shown, Decides}
 use Rattle.lines.specs.declared.line.Line.{Line}
-use Rattle.lines.proofs.Rows.{passed, failed, passed_none}
+use Rattle.lines.proofs.Rows.{passed, failed}
 
 abbrev pub names : List Listed → List Name
 names = map (λ e. name e.object)
 
--- n rows have been gone through up to place i, and the objects of the k that passed are gathered in xs
-pub record Gathering (post : Line → Bool → Type 0) (f : ℕ → Listed) (n i k : ℕ) (xs : List Name) : Type 0 where
+-- the rows have been gone through up to place i, and the objects of the k that passed are gathered in xs
+pub record Gathering (post : Line → Bool → Type 0) (f : ℕ → Listed) (i k : ℕ) (xs : List Name) : Type 0 where
   pub long : length xs ≡ 2048
   pub behind : k ≤ i
-  pub left : (p : Listed → Bool) → Decides post p → names (filter p (rows f 0 n)) ≡ take k xs ++ names (filter p (rows f i (n - i)))
+  pub gathered : (p : Listed → Bool) → Decides post p → take k xs ≡ names (filter p (rows f 0 i))
 
-module _ {post : Line → Bool → Type 0} {f : ℕ → Listed} {n : ℕ} where
-  pub gathering_none : (xs : List Name) → length xs ≡ 2048 → Gathering post f n 0 0 xs
-  gathering_none xs l = let m : n ≡ n - 0 = omega arith in record { long = l; behind = omega arith; left = λ p d. ap (λ k. names (filter p (rows f 0 k))) m }
-
-  module _ {i k : ℕ} {xs : List Name} (w : Gathering post f n i k xs) (h : i < n) (l : Line) (is : l ≡ shown (f i)) where
+module _ {post : Line → Bool → Type 0} {f : ℕ → Listed} where
+  module _ {i k : ℕ} {xs : List Name} (w : Gathering post f i k xs) (l : Line) (is : l ≡ shown (f i)) where
     told : (p : Listed → Bool) → Decides post p → (b : Bool) → post l b → p (f i) ≡ b
     told p d b r = sym (d (f i) b (subst (λ x. post x b) is r))
 
-    pub gathering_more : n ≤ 2048 → post l true → Gathering post f n (i + 1) (k + 1) (set xs k l.object)
+    pub gathering_more : i < 2048 → post l true → Gathering post f (i + 1) (k + 1) (set xs k l.object)
     gathering_more few r =
         let here : k < length xs = omega (arith, w.long, w.behind) in
-        let rest = λ (p : Listed → Bool). names (filter p (rows f (i + 1) (n - (i + 1)))) in
+        let gathered = λ (p : Listed → Bool). filter p (rows f 0 i) in
         record {
           long = length-set xs k l.object ∙ w.long;
           behind = omega (arith, w.behind);
-          left = λ p d.
-              w.left p d ∙ ap (λ r. take k xs ++ names r) (passed p f i n h (told p d true r))
-              ∙ ap (λ o. take k xs ++ o ∷ rest p) (sym (ap (λ x. x.object) is))
-              ∙ sym (append_assoc (take k xs) (l.object ∷ []) (rest p)) ∙ ap (λ r. r ++ rest p) (sym (take_more_set xs k l.object here));
+          gathered = λ p d.
+              take_more_set xs k l.object here ∙ ap (λ r. r ++ l.object ∷ []) (w.gathered p d) ∙ ap (λ o. names (gathered p) ++ o ∷ []) (ap (λ x. x.object) is)
+              ∙ sym (map-append (λ e. name e.object) (gathered p) (f i ∷ [])) ∙ ap names (sym (passed p f i (told p d true r)));
         }
 
-    pub gathering_same : post l false → Gathering post f n (i + 1) k xs
+    pub gathering_same : post l false → Gathering post f (i + 1) k xs
     gathering_same r = record {
       long = w.long;
       behind = omega (arith, w.behind);
-      left = λ p d. w.left p d ∙ ap (λ r. take k xs ++ names r) (failed p f i n h (told p d false r));
+      gathered = λ p d. w.gathered p d ∙ ap names (sym (failed p f i (told p d false r)));
     }
 
-  pub gathering_all : {i k : ℕ} {xs : List Name} → Gathering post f n i k xs → n ≤ i → (p : Listed → Bool) → Decides post p → take k xs ≡ names (filter p (rows f 0 n))
-  gathering_all {i} {k} {xs} w h p d = sym (w.left p d ∙ ap (λ r. take k xs ++ names r) (passed_none p f i n h) ∙ append-nil (take k xs))
+  pub gathering_all : {i k : ℕ} {xs : List Name} (n : ℕ) → Gathering post f i k xs → n ≤ i → i ≤ n → (p : Listed → Bool) → Decides post p → take k xs ≡ names (filter p (rows f 0 n))
+  gathering_all {i} n w h l p d = let e : i ≡ n = omega arith in w.gathered p d ∙ ap (λ k. names (filter p (rows f 0 k))) e
 
 pub names_listed : (es : List Listed) → names (filter (λ e. true) es) ≡ map name (objects_listed es)
 unfolding objects_listed
@@ -76,6 +72,6 @@ names_joining c heard [] = refl
 names_joining c heard (e ∷ es) =
     let J = objects_in c (joined c heard es) in
     let step : names (filter (joins c heard) (e ∷ es)) ≡ map name (cond (joins c heard e) (e.object ∷ J) J) =
-        elim (joins c heard e) as (λ b. names (cond b (e ∷ filter (joins c heard) es) (filter (joins c heard) es)) ≡ map name (cond b (e.object ∷ J) J))
-        [ true ↦ ap (λ r. name e.object ∷ r) (names_joining c heard es) | false ↦ names_joining c heard es ] in
+    elim (joins c heard e) as (λ b. names (cond b (e ∷ filter (joins c heard) es) (filter (joins c heard) es)) ≡ map name (cond b (e.object ∷ J) J))
+    [ true ↦ ap (λ r. name e.object ∷ r) (names_joining c heard es) | false ↦ names_joining c heard es ] in
     step ∙ ap (map name) (sym (joined_line c heard e es _ _ refl refl))

@@ -9,7 +9,7 @@ use Rattle.lines.specs.Columns.{rows}
 use Rattle.lines.specs.Laws.{Kept}
 use Rattle.lines.specs.Lists.{lines, row_of}
 use Rattle.lines.specs.declared.table.Lines.{Lines}
-use Rattle.lines.proofs.Rows.{length_rows}
+use Rattle.std.proofs.lemmas.List.FromFn.{length-map-range_with_len}
 
 record At (f : ℕ → Listed) (i n : ℕ) (e : Listed) : Type 0 where
   at : ℕ
@@ -18,7 +18,6 @@ record At (f : ℕ → Listed) (i n : ℕ) (e : Listed) : Type 0 where
   is : e ≡ f at
 
 row_at : (f : ℕ → Listed) (i n : ℕ) (e : Listed) → Memᴰ e (rows f i n) → At f i n e
-unfolding rows
 row_at f i zero e m = absurd (Memᴰ.not-nil m)
 row_at f i (suc n) e m =
     ⊎_elim
@@ -37,7 +36,7 @@ kept t = record {
       (λ r. a.is ∙ ap (row_of t) r ∙ sym b.is)
       (λ r. ⊎_elim (λ l. absurd (t.alone a.at b.at (l, omega (arith, b.to), p, q))) (λ l. absurd (t.alone b.at a.at (l, omega (arith, a.to), sym p, sym q))) r)
       (cases_order a.at b.at);
-  few = subst (λ n. n ≤ 2048) (sym (length_rows (row_of t) 0 t.len)) (omega (arith, t.within, t.most));
+  few = subst (λ n. n ≤ 2048) (sym (length-map-range_with_len (row_of t) 0 t.len)) (omega (arith, t.within, t.most));
   own = λ e m. let a = row_at (row_of t) 0 t.len e m in ap (λ (x : Listed). home x.object) a.is ∙ t.own a.at (omega (arith, a.to));
   apart = λ e m q. let a = row_at (row_of t) 0 t.len e m in (t.far a.at (omega (arith, a.to))).0 (sym (ap (λ (x : Listed). x.holder) a.is) ∙ q);
   below = λ e m. let a = row_at (row_of t) 0 t.len e m in subst (λ n. n < t.houses) (sym (ap (λ (x : Listed). x.holder) a.is)) (t.far a.at (omega (arith, a.to))).1;

@@ -23,7 +23,6 @@ module _ (c : ℕ) (heard : ℕ → ℕ) where
       ∙ sym (append_assoc (rows g 0 i) (g i ∷ []) J) ∙ ap (λ r. r ++ J) (sym (rows_end g i))
 
   pub join_none : (f : ℕ → Listed) (n : ℕ) → joined c heard (rows f 0 n) ≡ rows f 0 0 ++ joined c heard (rows f 0 (n - 0))
-  unfolding rows
   join_none f n = let z : n ≡ n - 0 = omega arith in ap (λ k. joined c heard (rows f 0 k)) z
 
   pub join_all : (A : List Listed) (f : ℕ → Listed) (i n : ℕ) → n ≤ i → i ≤ n → A ≡ rows f 0 i ++ joined c heard (rows f i (n - i)) → rows f 0 n ≡ A
@@ -34,7 +33,7 @@ module _ (c : ℕ) (heard : ℕ → ℕ) where
 
 module _ (c o j : ℕ) where
   pub marked_found : (f g : ℕ → Listed) (i n k : ℕ) → place o j i (rows f i n) ≡ Some k → g k ≡ line o j (f k).stamp c → ((x : ℕ) → x ≢ k → f x ≡ g x) → rows g i n ≡ marked c o j (rows f i n)
-  unfolding place rows marked
+  unfolding place marked
   marked_found f g i zero k e at other = let z : ◌≡◌ {A = ℕ} 0 1 = cc in absurd (omega arith)
   marked_found f g i (suc n) k e at other =
       ⊎_elim
@@ -76,7 +75,7 @@ module _ (c o j : ℕ) where
       rw w.0 (listed_in_none es w.1)
 
   listed_not : (f : ℕ → Listed) (i n : ℕ) → ((x : ℕ) → i ≤ x → x < i + n → (f x).object ≡ o → (f x).holder ≡ j → ⊥) → listed o j (rows f i n) ≡ false
-  unfolding rows listed
+  unfolding listed
   listed_not f i zero h = refl
   listed_not f i (suc n) h =
       ⊎_elim
@@ -88,7 +87,7 @@ module _ (c o j : ℕ) where
 
   -- of the one line of o and j
   pub listed_in_found : (f : ℕ → Listed) (i n k : ℕ) → place o j i (rows f i n) ≡ Some k → ((x : ℕ) → k < x → x < i + n → (f x).object ≡ o → (f x).holder ≡ j → ⊥) → listed_in c o j (rows f i n) ≡ eqb (f k).census c
-  unfolding place rows listed_in
+  unfolding place listed_in
   listed_in_found f i zero k e alone = let z : ◌≡◌ {A = ℕ} 0 1 = cc in absurd (omega arith)
   listed_in_found f i (suc n) k e alone =
       ⊎_elim

@@ -73,11 +73,11 @@ searched key o xs d (Err at) up within parted =
     let l = length-map xs key in
     let is : (k : ℕ) → k < length xs → get_or (map key xs) k 0 ≡ key (get_or xs k d) = λ k h. get_or-map key xs k d 0 h in
     let rise : IsNonDecreasingBy (λ x. ordering_index (nat_cmp (key x) o)) xs = IsNonDecreasingBy-from_default (λ x. ordering_index (nat_cmp (key x) o)) xs d (λ i j le h.
-        let below : key (get_or xs i d) ≤ key (get_or xs j d) = grind (arith, up i j, is i, is j, λ (same : i ≡ j). ap (λ n. key (get_or xs n d)) same) in
-        grind (arith, nat_tests)) in
+    let below : key (get_or xs i d) ≤ key (get_or xs j d) = grind (arith, up i j, is i, is j, λ (same : i ≡ j). ap (λ n. key (get_or xs n d)) same) in
+    grind (arith, nat_tests)) in
     let found = parted rise in
     sym (is_in_none o (map key xs) (λ k h e.
-        ⊎_elim
-        (λ q. omega (arith, is k (omega arith), ranked (key (get_or xs k d)) o _ (sym (found.0 k d (omega arith) q))))
-        (λ q. omega (arith, is k (omega arith), ranked (key (get_or xs k d)) o _ (sym (found.1 k d q (omega arith)))))
-        (cases_lt k at)))
+    ⊎_elim
+    (λ q. omega (arith, is k (omega arith), ranked (key (get_or xs k d)) o _ (sym (found.0 k d (omega arith) q))))
+    (λ q. omega (arith, is k (omega arith), ranked (key (get_or xs k d)) o _ (sym (found.1 k d q (omega arith)))))
+    (cases_lt k at)))

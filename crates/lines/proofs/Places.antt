@@ -1,11 +1,11 @@
 -- Laws of places: a search, and what is found or new.
-use Rattle.std.proofs.Common.{◌≡◌, ℕ, zero, suc, ◌+◌, ◌-◌, ◌<◌, ◌≤◌, true, false, cond, ◌||◌, eqb, ◌≢◌, List, [], ◌∷◌, ◌++◌, length, set, is_some, Some, None, sym, refl, ap, ◌∙◌, ⊎_elim, arith, get_or-set_other, get_or-set_same}
+use Rattle.std.proofs.Common.{◌≡◌, ℕ, zero, suc, ◌+◌, ◌<◌, ◌≤◌, true, false, cond, ◌||◌, eqb, ◌≢◌, List, [], ◌∷◌, ◌++◌, length, set, is_some, Some, None, sym, refl, ap, ◌∙◌, ⊎_elim, arith, get_or-set_other, get_or-set_same}
 use Rattle.std.proofs.lemmas.Bool.{eq-eqb, eqb-true, and_parts, cases_Bool, cases_eq, cond-true, cond-false}
 use Rattle.std.proofs.lemmas.Iterator.Adapters.{position_from-zero}
 use Rattle.std.specs.List.{position, position_from, range_with_len}
 use Rattle.lines.specs.Listed.{Listed, line, is_of, listed, place, entered}
 use Rattle.lines.specs.Columns.{row, rows, model}
-use Rattle.lines.proofs.Rows.{rows_more, rows_none, rows_same, line_same}
+use Rattle.lines.proofs.Rows.{rows_same, line_same}
 
 module _ (o j : ℕ) where
   pub place_yes : (k : ℕ) (e : Listed) (es : List Listed) → is_of o j e ≡ true → place o j k (e ∷ es) ≡ Some k
@@ -42,7 +42,7 @@ module _ (o j : ℕ) where
     pub holder : (f k).holder ≡ j
 
   pub placed : (f : ℕ → Listed) (i n k : ℕ) → place o j i (rows f i n) ≡ Some k → Placed f i n k
-  unfolding place rows
+  unfolding place
   placed f i zero k e = let z : ◌≡◌ {A = ℕ} 0 1 = cc in absurd (omega arith)
   placed f i (suc n) k e =
       ⊎_elim
@@ -61,7 +61,7 @@ module _ (o j : ℕ) where
 
   -- nothing is passed over where nothing is found
   pub unplaced : (f : ℕ → Listed) (i n k : ℕ) → place o j i (rows f i n) ≡ None → i ≤ k → k < i + n → (f k).object ≡ o → (f k).holder ≡ j → ⊥
-  unfolding place rows
+  unfolding place
   unplaced f i zero k e a b p q = omega arith
   unplaced f i (suc n) k e a b p q =
       ⊎_elim
@@ -80,7 +80,7 @@ module _ (o j : ℕ) where
       (cases_Bool (is_of o j (f i)))
 
   pub entered_found : (s c : ℕ) (f g : ℕ → Listed) (i n k : ℕ) → place o j i (rows f i n) ≡ Some k → g k ≡ line o j s c → ((x : ℕ) → x ≢ k → f x ≡ g x) → rows g i n ≡ entered o j s c (rows f i n)
-  unfolding place rows entered
+  unfolding place entered
   entered_found s c f g i zero k e at other = let z : ◌≡◌ {A = ℕ} 0 1 = cc in absurd (omega arith)
   entered_found s c f g i (suc n) k e at other =
       ⊎_elim
@@ -101,7 +101,7 @@ module _ (o j : ℕ) where
       (cases_Bool (is_of o j (f i)))
 
   place_rows : (f : ℕ → Listed) (k i n : ℕ) → position_from (λ x. is_of o j (f x)) k (range_with_len i n) ≡ place o j k (rows f i n)
-  unfolding place rows
+  unfolding place
   place_rows f k i zero = refl
   place_rows f k i (suc n) = ap (cond (is_of o j (f i)) (Some k)) (place_rows f (k + 1) (i + 1) n)
 

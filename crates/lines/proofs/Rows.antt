@@ -1,6 +1,8 @@
 -- Laws of rows, and of columns with one more line.
-use Rattle.std.proofs.Common.{◌≡◌, ℕ, zero, suc, ◌+◌, ◌-◌, ◌<◌, ◌≤◌, Bool, true, false, ◌≢◌, List, [], ◌∷◌, ◌++◌, length, get_or, set, Some, None, sym, refl, ap, ◌∙◌, subst, ⊎_elim, add-one, arith, get_or-set_other, get_or-set_same}
-use Rattle.std.proofs.lemmas.Bool.{cases_eq, cond-true, cond-false}
+use Rattle.std.proofs.Common.{◌≡◌, ℕ, zero, suc, ◌+◌, ◌-◌, ◌<◌, ◌≤◌, Bool, true, false, cond, ◌≢◌, List, [], ◌∷◌, ◌++◌, length, get_or, set, Some, None, sym, refl, ap, ◌∙◌, subst, ⊎_elim, arith, get_or-set_other, get_or-set_same}
+use Rattle.std.proofs.lemmas.Bool.{cases_eq}
+use Rattle.std.proofs.lemmas.List.{append-nil}
+use Rattle.std.proofs.lemmas.List.FromFn.{map-range_with_len_more, filter_of_map_range_with_len_more}
 use Rattle.std.specs.List.{filter}
 use Rattle.wire.specs.Names.{home}
 use Rattle.lines.specs.Listed.{Listed, line}
@@ -9,60 +11,40 @@ use Rattle.lines.specs.Lists.{lines, row_of, shown, line_at, Pushed, Ready}
 use Rattle.lines.specs.declared.table.Lines.{Lines}
 
 pub rows_more : (f : ℕ → Listed) (i n : ℕ) → i < n → rows f i (n - i) ≡ f i ∷ rows f (i + 1) (n - (i + 1))
-unfolding rows
 rows_more f i n h = let e : n - i ≡ suc (n - (i + 1)) = omega arith in rw e
 
 pub rows_none : (f : ℕ → Listed) (i n : ℕ) → n ≤ i → rows f i (n - i) ≡ []
-unfolding rows
 rows_none f i n h = let e : n - i ≡ 0 = omega arith in rw e
 
--- the rows that pass a test
-module _ (p : Listed → Bool) (f : ℕ → Listed) (i n : ℕ) where
-  pub passed : i < n → p (f i) ≡ true → filter p (rows f i (n - i)) ≡ f i ∷ filter p (rows f (i + 1) (n - (i + 1)))
-  passed h e = ap (filter p) (rows_more f i n h) ∙ cond-true (p (f i)) _ _ e
-
-  pub failed : i < n → p (f i) ≡ false → filter p (rows f i (n - i)) ≡ filter p (rows f (i + 1) (n - (i + 1)))
-  failed h e = ap (filter p) (rows_more f i n h) ∙ cond-false (p (f i)) _ _ e
-
-  pub passed_none : n ≤ i → filter p (rows f i (n - i)) ≡ []
-  passed_none h = ap (filter p) (rows_none f i n h)
-
-pub length_rows : (f : ℕ → Listed) (i n : ℕ) → length (rows f i n) ≡ n
-unfolding rows
-length_rows f i zero = refl
-length_rows f i (suc n) = ap suc (length_rows f (i + 1) n)
-
 pub rows_same : (f g : ℕ → Listed) (i n : ℕ) → ((x : ℕ) → i ≤ x → x < i + n → f x ≡ g x) → rows f i n ≡ rows g i n
-unfolding rows
 rows_same f g i zero h = refl
 rows_same f g i (suc n) h =
     let a : f i ≡ g i = h i (omega arith) (omega arith) in
     let b : rows f (i + 1) n ≡ rows g (i + 1) n = rows_same f g (i + 1) n (λ x p q. h x (omega arith) (omega arith)) in
     cc
 
-pub rows_push : (f : ℕ → Listed) (i n : ℕ) → rows f i (suc n) ≡ rows f i n ++ f (i + n) ∷ []
-unfolding rows
-rows_push f i zero = let z : i + 0 ≡ i = omega arith in rw z
-rows_push f i (suc n) =
-    let z : (i + 1) + n ≡ i + suc n = omega arith in
-    let h : rows f (i + 1) (suc n) ≡ rows f (i + 1) n ++ f ((i + 1) + n) ∷ [] = rows_push f (i + 1) n in
-    ap (λ r. f i ∷ r) (h ∙ ap (λ k. rows f (i + 1) n ++ f k ∷ []) z)
-
 -- the first n rows and one more
 pub rows_end : (f : ℕ → Listed) (n : ℕ) → rows f 0 (n + 1) ≡ rows f 0 n ++ f n ∷ []
-rows_end f n = let z : 0 + n ≡ n = omega arith in rw add-one (rows_push f 0 n ∙ ap (λ k. rows f 0 n ++ f k ∷ []) z)
+rows_end f n = map-range_with_len_more f 0 n n (omega arith)
+
+-- and those of them that pass a test
+pub passed : (p : Listed → Bool) (f : ℕ → Listed) (n : ℕ) → p (f n) ≡ true → filter p (rows f 0 (n + 1)) ≡ filter p (rows f 0 n) ++ f n ∷ []
+passed p f n e = filter_of_map_range_with_len_more p f 0 n n (omega arith) ∙ ap (λ b. filter p (rows f 0 n) ++ cond b (f n ∷ []) []) e
+
+pub failed : (p : Listed → Bool) (f : ℕ → Listed) (n : ℕ) → p (f n) ≡ false → filter p (rows f 0 (n + 1)) ≡ filter p (rows f 0 n)
+failed p f n e = filter_of_map_range_with_len_more p f 0 n n (omega arith) ∙ ap (λ b. filter p (rows f 0 n) ++ cond b (f n ∷ []) []) e ∙ append-nil (filter p (rows f 0 n))
 
 pub line_same : {o j s c o' j' s' c' : ℕ} → o ≡ o' → j ≡ j' → s ≡ s' → c ≡ c' → line o j s c ≡ line o' j' s' c'
 line_same p q r t = cc
 
 pub line_at_none : (f : ℕ → Listed) (a n i : ℕ) → n ≤ i → line_at i (rows f a n) ≡ None
-unfolding rows line_at
+unfolding line_at
 line_at_none f a zero i h = refl
 line_at_none f a (suc n) zero h = absurd (omega arith)
 line_at_none f a (suc n) (suc i) h = line_at_none f (a + 1) n i (omega arith)
 
 pub line_at_row : (f : ℕ → Listed) (a n i : ℕ) → i < n → line_at i (rows f a n) ≡ Some (shown (f (a + i)))
-unfolding rows line_at
+unfolding line_at
 line_at_row f a zero i h = absurd (omega arith)
 line_at_row f a (suc n) zero h = let z : a ≡ a + 0 = omega arith in ap (λ k. Some (shown (f k))) z
 line_at_row f a (suc n) (suc i) h =

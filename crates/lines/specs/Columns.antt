@@ -1,5 +1,6 @@
 -- A list of lines in four columns.
-use Rattle.std.specs.Prelude.{◌≡◌, ℕ, zero, suc, ◌+◌, ◌<◌, ◌≤◌, min, List, [], ◌∷◌, length, ◌≢◌, slice_index}
+use Rattle.std.specs.Prelude.{◌≡◌, ℕ, ◌<◌, ◌≤◌, min, List, map, length, ◌≢◌, slice_index}
+use Rattle.std.specs.List.{range_with_len}
 use Rattle.wire.specs.Names.{home}
 use Rattle.lines.specs.Listed.{Listed, line}
 
@@ -7,9 +8,8 @@ abbrev pub row : List ℕ → List ℕ → List ℕ → List ℕ → ℕ → Lis
 row os hs ss cs i = line (slice_index os i) (slice_index hs i) (slice_index ss i) (slice_index cs i)
 
 -- n rows from place i on
-unfoldable pub rows : (ℕ → Listed) → ℕ → ℕ → List Listed
-rows f i zero = []
-rows f i (suc n) = f i ∷ rows f (i + 1) n
+abbrev pub rows : (ℕ → Listed) → ℕ → ℕ → List Listed
+rows f i n = map f (range_with_len i n)
 
 abbrev pub model : List ℕ → List ℕ → List ℕ → List ℕ → ℕ → List Listed
 model os hs ss cs n = rows (row os hs ss cs) 0 n

@@ -34,10 +34,7 @@ impl Stamps {
     pub fn next_for(&self, house: House) -> Result<Stamp, Refusal>
         ensures { result ≡ next_for house.0 self.now }
     {
-        let last = self
-            .given
-            .get(house.0 as usize)
-            .ok_or(Refusal::Malformed)?;
+        let last = self.given.get(house.0 as usize).ok_or(Refusal::Malformed)?;
         let next = last.checked_add(1).ok_or(Refusal::OutOfNumbers)?;
         Ok(Stamp(next))
     }

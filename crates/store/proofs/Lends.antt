@@ -32,7 +32,6 @@ pub all : (a : Answer) (h g : House) (e : Event) (n : ℕ) → Gives a (step h e
 all a h g e n s p = (same_house a h g (step h e) (always_fair h e) s).1 ∙ p
 
 pub no_rows : (f : ℕ → Listed) → columns.rows f 0 0 ≡ []
-unfolding columns.rows
 no_rows f = refl
 
 pub nothing_in : (i n : ℕ) (heap : Heap) (l : List Listed) (st : Stamps) (p : Part) → heap ≡ new_heap i n → l ≡ [] → st ≡ unstamped → p ≡ fresh 0 → record { heap = heap; list = l; stamps = st; part = p } ≡ empty i n

@@ -1,5 +1,5 @@
-use Rattle.std.proofs.Common.{◌≡◌, refl, ap, subst, sym}
-use Rattle.lines.specs.Lists.{lines, listing, row_of, Ready, Pushed}
+use Rattle.std.proofs.Common.{refl, ap, subst, sym}
+use Rattle.lines.specs.Lists.{listing, Ready, Pushed}
 use Rattle.lines.proofs.Closing.{turn_none, turn_gone, turn_kept, turn_ready, turn_all}
 use Rattle.lines.proofs.table.Lines.retain.Goals as goal
 use Rattle.lines.proofs.table.Lines.retain.Goals.{then-stays, else-stays}
@@ -24,4 +24,4 @@ loop-i-preserved g c =
     ]
 
 pub returns-clause-after : goal.returns-clause-after
-returns-clause-after g c = λ p decided. turn_all c.loop-i.invariant c.loop-i-test.false p decided
+returns-clause-after g c = λ p decided. turn_all c.loop-i.invariant c.loop-i-test.false c.loop-i.auto.i-end p decided
