@@ -34,7 +34,7 @@ line_at (suc i) (e ∷ es) = line_at i es
 abbrev pub entering : ℕ → ℕ → ℕ → ℕ → ℕ → List Listed → Result (Unit {0}) Refusal
 entering here houses room o j es = cond (belongs here houses o j) (cond (fits o j es room) (Ok tt) (Err NoRoom)) (Err Malformed)
 
--- u lies in the memory that t lies in, and is the list of the same house
+-- u lies in the memory that t lies in, and is the list of the same house: each call that changes a list says so of what it was and what it is, which no invariant of one list can
 pub record Lent (t u : Lines) : Type 0 where
   pub objects : u.objects.ghost_name ≡ t.objects.ghost_name
   pub holders : u.holders.ghost_name ≡ t.holders.ghost_name

@@ -18,6 +18,7 @@ impl Lines<'_> {
         ensures raises { Raises census.0 (lines self.old) (lines self.new) }
         ensures lent { Lent self.old self.new }
     {
+        // by place: a line is read in four columns and written in one, and what `iter_mut` leaves in a column no proof knows
         for i in 0..self.len {
             let line = self.row(i);
             if is_unheard(line, stamps) {
@@ -99,6 +100,7 @@ impl Lines<'_> {
         ensures { (p : _) → Decides (F.post takes) p → result.now ≡ map (λ e. name e.object) (filter p (lines self.now)) }
     {
         let mut count = 0;
+        // by place: a line's parts lie in four columns, so an iterator of lines would count places too
         for i in 0..self.len {
             let line = self.row(i);
             if takes(line) {
@@ -126,6 +128,7 @@ impl Lines<'_> {
     {
         let len = self.len;
         self.len = 0;
+        // by place, as `Vec::retain`: what is read and what is written lie in the same columns
         for i in 0..len {
             let line = self.row(i);
             if stays(line) {

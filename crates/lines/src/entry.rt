@@ -44,6 +44,7 @@ impl<'a> Lines<'a> {
     }
 }
 
+// An object and a holder are passed side by side, and not as a pair or a line: a caller has them apart, and would only put them together for the call.
 impl Lines<'_> {
     // How many lines there are.
     pub fn len(&self) -> usize
@@ -123,7 +124,7 @@ impl Lines<'_> {
         requires { i < self.now.len }
         ensures { result ≡ is_of object.0 holder.0 (row_of self.now i) }
     {
-        self.objects[i] == object.0 && self.holders[i] == holder.0 as u32
+        self.objects[i] == object.0 && self.holders[i] == u32::from(holder.0)
     }
 
     // The line at place `i` gets another stamp and another census.
@@ -158,7 +159,7 @@ impl Lines<'_> {
     {
         let at = self.len;
         self.objects[at] = line.object.0;
-        self.holders[at] = line.holder.0 as u32;
+        self.holders[at] = u32::from(line.holder.0);
         self.stamps[at] = line.stamp.0;
         self.censuses[at] = line.census.0;
         self.len = at + 1;

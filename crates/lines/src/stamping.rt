@@ -34,7 +34,10 @@ impl Stamps {
     pub fn next_for(&self, house: House) -> Result<Stamp, Refusal>
         ensures { result ≡ next_for house.0 self.now }
     {
-        let last = self.given.get(house.0 as usize).ok_or(Refusal::Malformed)?;
+        let last = self
+            .given
+            .get(usize::from(house.0))
+            .ok_or(Refusal::Malformed)?;
         let next = last.checked_add(1).ok_or(Refusal::OutOfNumbers)?;
         Ok(Stamp(next))
     }
@@ -45,7 +48,7 @@ impl Stamps {
         ensures after { self.new ≡ (if is_ok result then with_given self.old house.0 (given_to self.old house.0 + 1) else self.old) }
     {
         let stamp = self.next_for(house)?;
-        self.given[house.0 as usize] = stamp.0;
+        self.given[usize::from(house.0)] = stamp.0;
         Ok(stamp)
     }
 
@@ -54,11 +57,15 @@ impl Stamps {
         ensures value { result ≡ seeing house.0 stamp.0 self.old }
         ensures after { self.new ≡ (if is_ok result then with_seen self.old house.0 stamp.0 else self.old) }
     {
-        let seen = self.seen.get(house.0 as usize).ok_or(Refusal::Malformed)?;
+        // no `get_mut` here and below: a proof knows no element of what it leaves
+        let seen = self
+            .seen
+            .get(usize::from(house.0))
+            .ok_or(Refusal::Malformed)?;
         if stamp.0 <= *seen {
             return Err(Refusal::OldStamp);
         }
-        self.seen[house.0 as usize] = stamp.0;
+        self.seen[usize::from(house.0)] = stamp.0;
         Ok(())
     }
 
@@ -67,8 +74,11 @@ impl Stamps {
         ensures value { result ≡ hearing house.0 }
         ensures after { self.new ≡ (if is_ok result then with_heard self.old house.0 (max (heard_from self.old house.0) stamp.0) else self.old) }
     {
-        let heard = self.heard.get(house.0 as usize).ok_or(Refusal::Malformed)?;
-        self.heard[house.0 as usize] = stamp.0.max(*heard);
+        let heard = self
+            .heard
+            .get(usize::from(house.0))
+            .ok_or(Refusal::Malformed)?;
+        self.heard[usize::from(house.0)] = stamp.0.max(*heard);
         Ok(())
     }
 }
@@ -77,5 +87,5 @@ impl Stamps {
 fn stamp_of(row: &[u32; 16], house: House) -> Stamp
     ensures { result ≡ stamped (slice_index row.now house.0) }
 {
-    Stamp(row.get(house.0 as usize).copied().unwrap_or(0))
+    Stamp(row.get(usize::from(house.0)).copied().unwrap_or(0))
 }

@@ -3,7 +3,6 @@ use Rattle.std.proofs.Common.{◌≡◌, ℕ, ◌≤◌, List, [], refl, ◌∙�
 use Rattle.wire.specs.declared.names.House as wire
 use Rattle.tables.specs.Model.{Heap}
 use Rattle.objects.specs.Calls.{new_heap}
-use Rattle.lines.specs.Columns as columns
 use Rattle.lines.specs.Columns.{Own, Far}
 use Rattle.lines.specs.Listed.{Listed}
 use Rattle.lines.specs.Stamping.{unstamped}
@@ -30,9 +29,6 @@ here a h g e i s p = (same_house a h g (step h e) (always_fair h e) s).0 ∙ p
 
 pub all : (a : Answer) (h g : House) (e : Event) (n : ℕ) → Gives a (step h e) h g → h.heap.houses ≡ n → g.heap.houses ≡ n
 all a h g e n s p = (same_house a h g (step h e) (always_fair h e) s).1 ∙ p
-
-pub no_rows : (f : ℕ → Listed) → columns.rows f 0 0 ≡ []
-no_rows f = refl
 
 pub nothing_in : (i n : ℕ) (heap : Heap) (l : List Listed) (st : Stamps) (p : Part) → heap ≡ new_heap i n → l ≡ [] → st ≡ unstamped → p ≡ fresh 0 → record { heap = heap; list = l; stamps = st; part = p } ≡ empty i n
 nothing_in i n heap l st p a b c d = rw (a, b, c, d)
