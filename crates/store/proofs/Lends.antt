@@ -1,5 +1,5 @@
 -- Tables that come back from a loan are those of the same house.
-use Rattle.std.proofs.Common.{◌≡◌, ℕ, ◌≤◌, List, [], refl, ◌∙◌, subst, arith}
+use Rattle.std.proofs.Common.{◌≡◌, ℕ, ◌≤◌, List, [], ◌∙◌, subst, arith}
 use Rattle.wire.specs.declared.names.House as wire
 use Rattle.tables.specs.Model.{Heap}
 use Rattle.objects.specs.Calls.{new_heap}
