@@ -152,12 +152,8 @@ fn a_census(rt: HostRuntime) {
     list.join(Census(1), &seen);
     assert!(rt; list.mark(Name(32), House(1), Census(1)));
     let mut names = [Name(0); 2048];
-    assert!(rt;
-        list.objects(&mut names) == [Name(16), Name(32), Name(48)].as_slice()
-    );
-    assert!(rt;
-        list.objects_in(Census(1), &mut names) == [Name(32), Name(48)].as_slice()
-    );
+    assert!(rt; list.objects(&mut names) == [Name(16), Name(32), Name(48)].as_slice());
+    assert!(rt; list.objects_in(Census(1), &mut names) == [Name(32), Name(48)].as_slice());
     list.sweep(Census(1));
     assert!(rt;
         list.len() == 2 && is_line(&list, 0, 32, 1, 2, 1) && is_line(&list, 1, 48, 2, 1, 1)
@@ -173,7 +169,9 @@ fn stamping(rt: HostRuntime) -> Result<(), Fail> {
     assert!(rt; number(stamps.see(House(15), Stamp(7))) == 0);
     assert!(rt; number(stamps.see(House(15), Stamp(7))) == 7);
     assert!(rt; number(stamps.see(House(16), Stamp(1))) == 1);
-    assert!(rt; stamps.seen_from(House(15)) == Stamp(7) && stamps.heard_from(House(15)) == Stamp(0));
+    assert!(rt;
+        stamps.seen_from(House(15)) == Stamp(7) && stamps.heard_from(House(15)) == Stamp(0)
+    );
     stamps.given[3] = u32::MAX;
     match stamps.give(House(3)) {
         Ok(_) => Err(Fail::new("a stamp past the end")),
