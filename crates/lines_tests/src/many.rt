@@ -4,15 +4,10 @@ use wire::{Census, House, Name, Stamp};
 
 // Enters a line for each place; whether all had room.
 fn fill(list: &mut Lines) -> bool {
-    for i in 0..2048u32 {
-        if list
-            .enter(Name(16 * i + 16), House(1), Stamp(i + 1), Census(0))
-            .is_err()
-        {
-            return false;
-        }
-    }
-    true
+    (0..2048).all(|i| {
+        list.enter(Name(16 * i + 16), House(1), Stamp(i + 1), Census(0))
+            .is_ok()
+    })
 }
 
 // The first 2,000 objects of house 0, as a word has them.

@@ -1,15 +1,6 @@
 use crate::words::word;
 use lines::{Line, Lines, Stamps};
-use std::test::Fail;
 use wire::{Census, House, Name, Refusal, Stamp};
-
-// The number of the refusal, 0 for none.
-fn number(answer: Result<(), Refusal>) -> u8 {
-    match answer {
-        Ok(()) => 0,
-        Err(refusal) => refusal.number(),
-    }
-}
 
 // Whether the line at place `i` is this one.
 fn is_line(list: &Lines, i: usize, object: u32, holder: u8, stamp: u32, census: u32) -> bool {
@@ -61,8 +52,8 @@ fn one_line(rt: HostRuntime) {
         House(0),
         3,
     );
-    assert!(rt; number(list.enter(Name(16), House(1), Stamp(1), Census(0))) == 0);
-    assert!(rt; number(list.enter(Name(16), House(1), Stamp(2), Census(4))) == 0);
+    assert!(rt; list.enter(Name(16), House(1), Stamp(1), Census(0)) == Ok(()));
+    assert!(rt; list.enter(Name(16), House(1), Stamp(2), Census(4)) == Ok(()));
     assert!(rt; list.len() == 1 && is_line(&list, 0, 16, 1, 2, 4));
     assert!(rt;
         list.is_held(Name(16), House(1), Census(4)) && !list.is_held(Name(16), House(2), Census(4))
@@ -91,14 +82,14 @@ fn refusals(rt: HostRuntime) {
         House(1),
         3,
     );
-    assert!(rt; number(list.enter(Name(16), House(2), Stamp(1), Census(0))) == 1);
-    assert!(rt; number(list.enter(Name(17), House(1), Stamp(1), Census(0))) == 1);
-    assert!(rt; number(list.enter(Name(17), House(3), Stamp(1), Census(0))) == 1);
-    assert!(rt; number(list.enter(Name(17), House(2), Stamp(1), Census(0))) == 0);
-    assert!(rt; number(list.enter(Name(17), House(0), Stamp(1), Census(0))) == 0);
+    assert!(rt; list.enter(Name(16), House(2), Stamp(1), Census(0)) == Err(Refusal::Malformed));
+    assert!(rt; list.enter(Name(17), House(1), Stamp(1), Census(0)) == Err(Refusal::Malformed));
+    assert!(rt; list.enter(Name(17), House(3), Stamp(1), Census(0)) == Err(Refusal::Malformed));
+    assert!(rt; list.enter(Name(17), House(2), Stamp(1), Census(0)) == Ok(()));
+    assert!(rt; list.enter(Name(17), House(0), Stamp(1), Census(0)) == Ok(()));
     assert!(rt; !list.has_room(Name(33), House(2)) && list.has_room(Name(17), House(2)));
-    assert!(rt; number(list.enter(Name(33), House(2), Stamp(2), Census(0))) == 9);
-    assert!(rt; number(list.enter(Name(17), House(0), Stamp(2), Census(0))) == 0);
+    assert!(rt; list.enter(Name(33), House(2), Stamp(2), Census(0)) == Err(Refusal::NoRoom));
+    assert!(rt; list.enter(Name(17), House(0), Stamp(2), Census(0)) == Ok(()));
     assert!(rt;
         is_line(&list, 0, 17, 2, 1, 0) && is_line(&list, 1, 17, 0, 2, 0) && list.len() == 2
     );
@@ -152,12 +143,8 @@ fn a_census(rt: HostRuntime) {
     list.join(Census(1), &seen);
     assert!(rt; list.mark(Name(32), House(1), Census(1)));
     let mut names = [Name(0); 2048];
-    assert!(rt;
-        list.objects(&mut names) == [Name(16), Name(32), Name(48)].as_slice()
-    );
-    assert!(rt;
-        list.objects_in(Census(1), &mut names) == [Name(32), Name(48)].as_slice()
-    );
+    assert!(rt; list.objects(&mut names) == [Name(16), Name(32), Name(48)].as_slice());
+    assert!(rt; list.objects_in(Census(1), &mut names) == [Name(32), Name(48)].as_slice());
     list.sweep(Census(1));
     assert!(rt;
         list.len() == 2 && is_line(&list, 0, 32, 1, 2, 1) && is_line(&list, 1, 48, 2, 1, 1)
@@ -166,20 +153,16 @@ fn a_census(rt: HostRuntime) {
 
 // Stamps for a house rise from 1 and end at 4,294,967,295; one that came is new only above the highest.
 #[test]
-fn stamping(rt: HostRuntime) -> Result<(), Fail> {
+fn stamping(rt: HostRuntime) {
     let mut stamps = Stamps::new();
-    assert!(rt; matches!(stamps.give(House(3)), Ok(Stamp(1))));
-    assert!(rt; matches!(stamps.give(House(3)), Ok(Stamp(2))));
-    assert!(rt; number(stamps.see(House(15), Stamp(7))) == 0);
-    assert!(rt; number(stamps.see(House(15), Stamp(7))) == 7);
-    assert!(rt; number(stamps.see(House(16), Stamp(1))) == 1);
-    assert!(rt; stamps.seen_from(House(15)) == Stamp(7) && stamps.heard_from(House(15)) == Stamp(0));
+    assert!(rt; stamps.give(House(3)) == Ok(Stamp(1)));
+    assert!(rt; stamps.give(House(3)) == Ok(Stamp(2)));
+    assert!(rt; stamps.see(House(15), Stamp(7)) == Ok(()));
+    assert!(rt; stamps.see(House(15), Stamp(7)) == Err(Refusal::OldStamp));
+    assert!(rt; stamps.see(House(16), Stamp(1)) == Err(Refusal::Malformed));
+    assert!(rt;
+        stamps.seen_from(House(15)) == Stamp(7) && stamps.heard_from(House(15)) == Stamp(0)
+    );
     stamps.given[3] = u32::MAX;
-    match stamps.give(House(3)) {
-        Ok(_) => Err(Fail::new("a stamp past the end")),
-        Err(refusal) => {
-            assert!(rt; refusal.number() == 10);
-            Ok(())
-        },
-    }
+    assert!(rt; stamps.give(House(3)) == Err(Refusal::OutOfNumbers));
 }
