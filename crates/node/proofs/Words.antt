@@ -1,18 +1,13 @@
 -- A word by its parts.
-use Rattle.std.proofs.Common.{◌≡◌, ℕ, Bool, true, false, cond, eqb, ltb, leb, List, [], ◌∷◌, length, Ok, sym, ap, ◌∙◌}
-use Rattle.wire.specs.declared.message.Message.{Message}
+use Rattle.std.proofs.Common.{◌≡◌, ℕ, false, eqb, leb, List, [], ◌∷◌, length, Ok}
 use Rattle.wire.specs.declared.names.House as wire
 use Rattle.wire.specs.Names.{house}
-use Rattle.lines.specs.Listed.{Listed, joined}
-use Rattle.lines.specs.Stamping.{heard_from}
-use Rattle.lines.specs.declared.stamps.Stamps.{Stamps}
-use Rattle.census.specs.Model.{Part, fresh, replying, replied}
 use Rattle.lines.specs.Stamping.{stamp, seen_from}
 use Rattle.wire.specs.declared.names.Stamp.{Stamp}
 use Rattle.wire.specs.declared.message.Message.TheVariants.{Word}
 use Rattle.node.specs.Executed.{references_of}
-use Rattle.node.specs.House.{House, self, houses, census, with_part}
-use Rattle.node.specs.Step.{letter, used, caught_up, in_census, replies_to, polled, worded, bytes_of}
+use Rattle.node.specs.House.{House, self, houses}
+use Rattle.node.specs.Step.{worded, bytes_of}
 
 pub word_step :
     (h : House) (j : ℕ) (from to : wire.House) (st : Stamp) (k : ℕ) (bs : List ℕ) → leb (houses h) j ≡ false → eqb j (self h) ≡ false → from ≡ house (self h) → to ≡ house j → st ≡ stamp (seen_from h.stamps j) →

@@ -1,5 +1,4 @@
-use Rattle.std.proofs.Common.{rules, ◌≡◌, true, false, ltb, sym, ap, ◌∙◌, arith}
-use Rattle.std.proofs.lemmas.Bool.{lt-ltb, le-ltb}
+use Rattle.std.proofs.Common.{rules, ◌≡◌, true, false, ltb, sym, ap, ◌∙◌}
 use Rattle.lines.specs.Listed.{objects_in, joined}
 use Rattle.lines.specs.Lists.{lines}
 use Rattle.lines.specs.Stamping.{heard_from}
