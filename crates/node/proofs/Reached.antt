@@ -1,13 +1,15 @@
 -- What is computed as met is what is met, and so for collection and for the references in use.
-use Rattle.std.proofs.Common.{◌≡◌, ℕ, zero, suc, ◌≤◌, Bool, true, false, not, eqb, ◌⊎◌, List, [], ◌∷◌, ◌++◌, length, sym, refl, ap, ◌∙◌, subst, inl, inr, ⊎_elim, arith}
+use Rattle.std.proofs.Common.{◌≡◌, ℕ, zero, suc, ◌≤◌, Bool, true, false, not, eqb, ◌⊎◌, List, [], ◌∷◌, ◌++◌, length, vec_items, sym, refl, ap, ◌∙◌, subst, inl, inr, ⊎_elim, arith}
 use Rattle.std.proofs.lemmas.Bool.{cases_Bool, or_cases, or_left, or_right, or_from, cond-true, cond-false, cond_both, and_parts, both_ways, not-true, eqb-true, eqb-false, eq-eqb, ne_eqb}
 use Rattle.std.specs.declared.option.Option.TheVariants as option
 use Rattle.wire.specs.Names.{home}
 use Rattle.tables.specs.Model.{Object, Heap, is_in, present, fields_of, names, rising, above, added}
 use Rattle.tables.specs.Met.{Met, start, field, Collected, Lists, FarInUse, Refers, Some, end, kept, left, everywhere}
-use Rattle.tables.proofs.Places.{above_out, rising_added}
+use Rattle.tables.proofs.Places.{above_out, rising_added, names_in_place}
 use Rattle.tables.proofs.Reach.{is_in_append}
 use Rattle.tables.proofs.Gathers.{added_why, added_new, added_old}
+use Rattle.objects.specs.declared.store.Objects.{Objects}
+use Rattle.objects.specs.Calls.{heap_of}
 use Rattle.node.specs.Executed.{behind, picked, spread, met_from, kept_in, collected, sorted_by, names_in_use, references_of}
 
 -- what is in some of a list is in the list
@@ -217,6 +219,10 @@ module _ (os : List ℕ) where
       (λ u. absurd (both_ways (eqb x.name o) (apart os x.name o f m) u))
       (λ u. kept_stays o xs u m)
       (or_cases (eqb x.name o) (is_in o (names xs)) e))
+
+-- the objects in memory rise
+pub ordered : (t : Objects) → rising (names (heap_of t).objects) ≡ true
+ordered t = ap rising (names_in_place (vec_items t.objects)) ∙ t.ordered
 
 pub collects : (h : Heap) (listed : List ℕ) → rising (names h.objects) ≡ true → Collected h listed (collected listed h)
 collects h listed r =

@@ -1,5 +1,5 @@
 -- The bytes of tellings one by one.
-use Rattle.std.proofs.Common.{◌≡◌, ℕ, ◌+◌, ◌<◌, List, [], ◌∷◌, ◌++◌, map, length, get_or, take, vec_items, Vec, arith}
+use Rattle.std.proofs.Common.{◌≡◌, ℕ, ◌+◌, ◌<◌, List, [], ◌∷◌, ◌++◌, map, length, get_or, take, vec_items, Vec}
 use Rattle.std.proofs.lemmas.List.{take_more, map-append}
 use Rattle.std.specs.declared.alloc.Global.{Global}
 use Rattle.wire.specs.declared.message.Message.TheVariants.{Telling}
@@ -7,7 +7,7 @@ use Rattle.wire.specs.declared.names.Census.{Census}
 use Rattle.wire.specs.declared.names.House.{House}
 use Rattle.wire.specs.declared.names.Name.{Name}
 use Rattle.wire.specs.Format.{encode}
-use Rattle.store.specs.Sending.{bytes_of, contents, items_in, tellings}
+use Rattle.store.specs.Sending.{bytes_of, contents, tellings}
 
 -- one telling more
 pub told_more :

@@ -1,16 +1,13 @@
-use Rattle.std.proofs.Common.{vec_items, ap, ◌∙◌}
-use Rattle.tables.proofs.Places.{names_in_place}
 use Rattle.tables.specs.Met.{FarInUse}
-use Rattle.tables.specs.Model.{rising}
 use Rattle.tables.specs.Shown.{numbers}
 use Rattle.objects.specs.Calls.{heap_of}
 use Rattle.node.specs.Executed.{names_in_use}
 use Rattle.node.proofs.Bytes.{found}
-use Rattle.node.proofs.Reached.{in_use}
+use Rattle.node.proofs.Reached.{in_use, ordered}
 use Rattle.node.proofs.collecting.met_from.Goals as goal
 
 pub returns : goal.returns
 returns c =
     let t = c.args.objects.now in
     let from = numbers c.args.names.now in
-    found c.in_use.result (FarInUse (heap_of t) from) (names_in_use from (heap_of t)) c.in_use.ensures.sole (in_use (heap_of t) from (ap rising (names_in_place (vec_items t.objects)) ∙ t.ordered))
+    found c.in_use.result (FarInUse (heap_of t) from) (names_in_use from (heap_of t)) c.in_use.ensures.sole (in_use (heap_of t) from (ordered t))

@@ -1,6 +1,4 @@
-use Rattle.std.proofs.Common.{rules, [], vec_items, sym, ap, ◌∙◌}
-use Rattle.tables.proofs.Places.{names_in_place}
-use Rattle.tables.specs.Model.{rising}
+use Rattle.std.proofs.Common.{rules, [], sym, ap, ◌∙◌}
 use Rattle.tables.specs.Shown.{numbers}
 use Rattle.objects.specs.Calls.{heap_of}
 use Rattle.lines.specs.Listed.{objects_listed}
@@ -10,7 +8,7 @@ use Rattle.node.specs.House.{with_heap}
 use Rattle.node.specs.Shown.{house_of}
 use Rattle.node.specs.Step.{sends}
 use Rattle.node.proofs.Bytes.{back}
-use Rattle.node.proofs.Reached.{collects}
+use Rattle.node.proofs.Reached.{collects, ordered}
 use Rattle.node.proofs.head.Head.collect.Goals as goal
 
 pub returns : goal.returns
@@ -18,7 +16,7 @@ returns c =
     let h = house_of c.args.self c.args.tables.now in
     let t = c.args.tables.now.objects.now in
     let from = numbers c.objects-listed.result.now in
-    let here = collects (heap_of t) from (ap rising (names_in_place (vec_items t.objects)) ∙ t.ordered) in
+    let here = collects (heap_of t) from (ordered t) in
     record {
       step =
           ap (λ x. sends [] (with_heap x h))

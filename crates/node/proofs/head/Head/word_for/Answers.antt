@@ -1,11 +1,11 @@
 use Rattle.std.proofs.Common.{rules, ◌≡◌, false, eqb, leb, length, vec_items, sym, refl, ap, ◌∙◌}
+use Rattle.std.proofs.lemmas.List.{length-map}
 use Rattle.wire.specs.Names.{house}
-use Rattle.tables.specs.Shown.{numbers}
+use Rattle.tables.specs.Shown.{number, numbers}
 use Rattle.objects.specs.Calls.{heap_of}
 use Rattle.node.specs.Executed.{references_of}
 use Rattle.node.specs.Shown.{house_of}
 use Rattle.node.specs.Step.{bytes_of}
-use Rattle.node.proofs.Bytes.{numbers_long}
 use Rattle.node.proofs.Words.{word_step}
 use Rattle.node.proofs.Reached.{refers}
 use Rattle.node.proofs.head.Head.word_for.Goals as goal
@@ -20,7 +20,7 @@ returns c =
     let bytes : vec_items c.in_ok-bytes.bytes ≡ bytes_of (references_of j t) = c.in_ok-bytes.ensures ∙ ap (λ ns. bytes_of (numbers ns)) c.deref.ensures.value ∙ ap bytes_of refs in
     let size = c.in-Ok.ensures in
     let long = c.in_ok-names.names.ok.0 in
-    let count : c.in-Ok.count ≡ length (references_of j t) = size.1 ∙ c.len.ensures ∙ long ∙ sym (numbers_long (vec_items c.in_ok-names.names)) ∙ ap length refs in
+    let count : c.in-Ok.count ≡ length (references_of j t) = size.1 ∙ c.len.ensures ∙ long ∙ sym (length-map (vec_items c.in_ok-names.names) number) ∙ ap length refs in
     record {
       step =
           word_step (house_of c.args.self.now c.args.tables.now) j c.home-from.result c.args.to c.seen_from.result c.in-Ok.count (vec_items c.in_ok-bytes.bytes) there other (ap house c.home-from.ensures) refl c.seen_from.ensures count bytes;
