@@ -1,4 +1,4 @@
-ghost use Rattle.std.specs.Prelude.{◌≡◌, ◌<◌, not, ◌&&◌, map, ◌==◌, nat_lt, slice_index};
+ghost use Rattle.std.specs.Prelude.{◌≡◌, ◌<◌, ◌≤◌, not, ◌&&◌, length, map, ◌==◌, nat_lt, slice_index};
 ghost use Rattle.std.specs.List.{filter};
 ghost use Rattle.wire.specs.Names.{name};
 ghost use Rattle.lines.specs.Laws.{Raises, LeavesUnheard};
@@ -63,14 +63,16 @@ impl Lines<'_> {
 
     // The objects of all lines, in their order, written to the front of `into`.
     pub fn objects<'b>(&self, into: &'b mut [Name; 2048]) -> &'b [Name]
-        ensures { result.now ≡ map name (objects_listed (lines self.now)) }
+        ensures names { result.now ≡ map name (objects_listed (lines self.now)) }
+        ensures within { length result.now ≤ 2048 }
     {
         self.objects_where(|_| true, into)
     }
 
     // The same of the lines with this number.
     pub fn objects_in<'b>(&self, census: Census, into: &'b mut [Name; 2048]) -> &'b [Name]
-        ensures { result.now ≡ map name (objects_in census.0 (lines self.now)) }
+        ensures names { result.now ≡ map name (objects_in census.0 (lines self.now)) }
+        ensures within { length result.now ≤ 2048 }
     {
         self.objects_where(|line| line.census == census, into)
     }
@@ -82,7 +84,8 @@ impl Lines<'_> {
         stamps: &Stamps,
         into: &'b mut [Name; 2048],
     ) -> &'b [Name]
-        ensures { result.now ≡ map name (objects_in census.0 (joined census.0 (heard_from stamps.now) (lines self.now))) }
+        ensures names { result.now ≡ map name (objects_in census.0 (joined census.0 (heard_from stamps.now) (lines self.now))) }
+        ensures within { length result.now ≤ 2048 }
     {
         self.objects_where(
             |line| is_unheard(line, stamps) || line.census == census,
@@ -97,7 +100,8 @@ impl Lines<'_> {
         into: &'b mut [Name; 2048],
     ) -> &'b [Name]
         requires { F.IsAlwaysCallable takes }
-        ensures { (p : _) → Decides (F.post takes) p → result.now ≡ map (λ e. name e.object) (filter p (lines self.now)) }
+        ensures within { length result.now ≤ 2048 }
+        ensures names { (p : _) → Decides (F.post takes) p → result.now ≡ map (λ e. name e.object) (filter p (lines self.now)) }
     {
         let mut count = 0;
         // by place: a line's parts lie in four columns, so an iterator of lines would count places too
