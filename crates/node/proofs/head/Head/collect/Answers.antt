@@ -20,7 +20,7 @@ returns c =
     record {
       step =
           ap (λ x. sends [] (with_heap x h))
-          (ap (λ l. collected l (heap_of t)) (sym (back _ (objects_listed (lines c.args.tables.now.list.now)) c.objects-listed.ensures))
+          (ap (λ l. collected l (heap_of t)) (sym (back _ (objects_listed (lines c.args.tables.now.list.now)) c.objects-listed.ensures.names))
           ∙ c.collect.ensures.lasting.sole (collected from (heap_of t)) here);
       lent = search rules;
     }

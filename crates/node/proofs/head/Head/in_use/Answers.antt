@@ -18,7 +18,7 @@ returns-then-le c =
     let same : caught_up n h ≡ h = rw low in
     let listed = objects_in c.census-own.result.0 (lines c.args.tables.now.list.now) in
     found_also c.met_from.result _ _
-    (ap (λ l. names_in_use l (heap_of c.args.tables.now.objects.now)) (back _ listed c.objects_in-listed.ensures)
+    (ap (λ l. names_in_use l (heap_of c.args.tables.now.objects.now)) (back _ listed c.objects_in-listed.ensures.names)
     ∙ ap (λ k. names_in_use (objects_in k (lines c.args.tables.now.list.now)) (heap_of c.args.tables.now.objects.now)) c.census-own.ensures
     ∙ sym (ap used same))
     c.met_from.ensures
@@ -31,6 +31,6 @@ returns c =
     let up : caught_up n h ≡ in_census n h = rw above in
     let listed = objects_in n (joined n (heard_from c.args.self.now.stamps) (lines c.args.tables.now.list.now)) in
     found_also c.met_from-2.result _ _
-    (ap (λ l. names_in_use l (heap_of c.args.tables.now.objects.now)) (back _ listed c.objects_joining-listed.ensures)
+    (ap (λ l. names_in_use l (heap_of c.args.tables.now.objects.now)) (back _ listed c.objects_joining-listed.ensures.names)
     ∙ sym (ap used up))
     c.met_from-2.ensures
