@@ -1,7 +1,10 @@
-// What both programs do with their arguments, standard input and standard output.
+// What both programs do with their arguments, with orders, and with standard input and standard output.
 
 #![tactic(auto)]
 
+mod orders;
+
+pub use orders::{follow, messages};
 use std::alloc::Global;
 use std::env;
 use std::io::{BufRead, BufReader, Write};
