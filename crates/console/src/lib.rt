@@ -41,6 +41,7 @@ pub fn play<P: Player>(rt: &HostRuntime, player: &mut P) -> anyhow::Result<()> {
     let mut output = rt.stdout();
     let mut line = Vec::new(heap);
     let mut out = String::new(heap);
+    // counted, since a loop has to end; one buffer serves every line, where `split` takes a new one for each
     for _ in 0..u64::MAX {
         line.clear();
         if input.read_until(b'\n', &mut line)? == 0 {
