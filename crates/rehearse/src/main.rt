@@ -11,7 +11,7 @@ use std::fmt::Write;
 use std::process::ExitCode;
 use store::Store;
 use tables::Object;
-use text::{Order, Play};
+use text::Play;
 use wire::{House, Refusal};
 
 const USAGE: &str =
@@ -42,22 +42,22 @@ impl Rehearsal {
         Ok(text::write_refusal(Refusal::Malformed, out)?)
     }
 
-    // A house does what it is told.
-    fn told(&mut self, house: House, order: Order<'_>, out: &mut String) -> anyhow::Result<()> {
+    // What a house answers to this is reported.
+    fn at<F>(&mut self, house: House, act: F, out: &mut String) -> anyhow::Result<()>
+    where
+        F: FnOnce(&mut Store) -> Result<Answer, AllocError> + Drop,
+        requires { F.IsAlwaysCallable act }
+    {
         let Some(store) = self.houses.get_mut(usize::from(house.0)) else {
             return self.malformed(out);
         };
-        let answer = console::follow(self.heap, store, order)?;
+        let answer = act(store)?;
         self.report(answer, out)
     }
 
     // These bytes come to a house.
     fn got(&mut self, house: House, bytes: &[u8], out: &mut String) -> anyhow::Result<()> {
-        let Some(store) = self.houses.get_mut(usize::from(house.0)) else {
-            return self.malformed(out);
-        };
-        let answer = store.got(bytes);
-        self.report(answer, out)
+        self.at(house, |store| Ok(store.got(bytes)), out)
     }
 
     // A copy of a message, counted from 1.
@@ -135,7 +135,10 @@ impl Player for Rehearsal {
     fn answer(&mut self, line: &[u8], out: &mut String) -> anyhow::Result<()> {
         match text::read_play(line) {
             Ok(None) => Ok(()),
-            Ok(Some(Play::At(house, order))) => self.told(house, order, out),
+            Ok(Some(Play::At(house, order))) => {
+                let heap = self.heap;
+                self.at(house, |store| console::follow(heap, store, order), out)
+            }
             Ok(Some(Play::DeliverAt(house, message))) => self.deliver_at(house, message, out),
             Ok(Some(Play::Deliver(message))) => self.deliver(message, out),
             Ok(Some(Play::Show)) => Ok(self.show(out)?),
