@@ -1,7 +1,10 @@
-// What both programs do with their arguments, standard input and standard output.
+// What both programs do with their arguments, with orders, and with standard input and standard output.
 
 #![tactic(auto)]
 
+mod orders;
+
+pub use orders::{follow, messages};
 use std::alloc::Global;
 use std::env;
 use std::io::{BufRead, BufReader, Write};
@@ -38,6 +41,7 @@ pub fn play<P: Player>(rt: &HostRuntime, player: &mut P) -> anyhow::Result<()> {
     let mut output = rt.stdout();
     let mut line = Vec::new(heap);
     let mut out = String::new(heap);
+    // counted, since a loop has to end; one buffer serves every line, where `split` takes a new one for each
     for _ in 0..u64::MAX {
         line.clear();
         if input.read_until(b'\n', &mut line)? == 0 {

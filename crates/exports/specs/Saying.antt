@@ -6,9 +6,6 @@ use Rattle.wire.specs.declared.refusal.Refusal.{Refusal}
 use Rattle.wire.specs.Refusals.{number_of}
 use Rattle.exports.specs.declared.said.Said.{Said}
 
-abbrev pub nothing : Said
-nothing = record { refusal = 0; kind = 0; by = 0; from = 0; to = 0; calm = false; count = 0; object = 0; stamp = 0; census = 0; round = 0; tally = 0 }
-
 abbrev pub refused : ℕ → Said
 refused k = record { refusal = k; kind = 0; by = 0; from = 0; to = 0; calm = false; count = 0; object = 0; stamp = 0; census = 0; round = 0; tally = 0 }
 

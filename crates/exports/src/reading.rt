@@ -1,7 +1,7 @@
 ghost use Rattle.std.specs.Prelude.{◌≡◌};
 ghost use Rattle.wire.specs.Format.{decode};
 ghost use Rattle.wire.specs.Refusals.{number_of};
-ghost use Rattle.exports.specs.Saying.{nothing, said_of, said, refused};
+ghost use Rattle.exports.specs.Saying.{said_of, said, refused};
 
 use crate::said::Said;
 use wire::{Message, Refusal};
@@ -17,31 +17,12 @@ pub extern "C" fn exports_read(bytes: &[u8], houses: u8) -> Said
     }
 }
 
-fn nothing() -> Said
-    ensures { result ≡ nothing }
-{
-    Said {
-        refusal: 0,
-        kind: 0,
-        by: 0,
-        from: 0,
-        to: 0,
-        calm: false,
-        count: 0,
-        object: 0,
-        stamp: 0,
-        census: 0,
-        round: 0,
-        tally: 0,
-    }
-}
-
 fn no(refusal: Refusal) -> Said
     ensures { result ≡ refused (number_of refusal) }
 {
     Said {
         refusal: refusal.number(),
-        ..nothing()
+        ..Said::default()
     }
 }
 
@@ -54,14 +35,14 @@ fn parts(message: Message) -> Said
             object: object.0,
             by: by.0,
             to: to.0,
-            ..nothing()
+            ..Said::default()
         },
         Message::Give { object, to, stamp } => Said {
             kind: 2,
             object: object.0,
             to: to.0,
             stamp: stamp.0,
-            ..nothing()
+            ..Said::default()
         },
         Message::Word {
             from,
@@ -74,7 +55,7 @@ fn parts(message: Message) -> Said
             to: to.0,
             stamp: stamp.0,
             count: objects.count,
-            ..nothing()
+            ..Said::default()
         },
         Message::Telling {
             census,
@@ -85,7 +66,7 @@ fn parts(message: Message) -> Said
             census: census.0,
             object: object.0,
             from: from.0,
-            ..nothing()
+            ..Said::default()
         },
         Message::Answer {
             census,
@@ -96,13 +77,13 @@ fn parts(message: Message) -> Said
             census: census.0,
             object: object.0,
             from: from.0,
-            ..nothing()
+            ..Said::default()
         },
         Message::Round { census, number } => Said {
             kind: 6,
             census: census.0,
             round: number.0,
-            ..nothing()
+            ..Said::default()
         },
         Message::Reply {
             census,
@@ -117,12 +98,12 @@ fn parts(message: Message) -> Said
             from: from.0,
             calm,
             tally: tally.0,
-            ..nothing()
+            ..Said::default()
         },
         Message::Complete { census } => Said {
             kind: 8,
             census: census.0,
-            ..nothing()
+            ..Said::default()
         },
     }
 }

@@ -1,6 +1,6 @@
 // What bytes say, laid out for C: the number of the refusal, or 0 and the parts of a message; 0 stands for a part that it does not have.
 #[repr(C)]
-#[derive(Clone, Copy)]
+#[derive(Clone, Copy, Default)]
 pub struct Said {
     pub refusal: u8,
     // the first byte

@@ -2,15 +2,11 @@
 
 #![tactic(auto)]
 
-use anyhow::anyhow;
 use console::Player;
-use node::Answer;
-use objects::Fault;
 use std::alloc::Global;
 use std::process::ExitCode;
 use store::Store;
-use text::Line;
-use wire::{House, Refusal};
+use wire::House;
 
 const USAGE: &str =
     "usage: house I N   (house I of N, with N from 1 to 16 and I below N; calls on standard input)";
@@ -21,43 +17,21 @@ struct Own {
     store: Store,
 }
 
-impl Own {
-    fn got(&mut self, digits: &[u8]) -> anyhow::Result<Answer> {
-        let Some(bytes) = text::read_hex(self.heap, digits)? else {
-            return Ok(Err(Refusal::Malformed.into()));
-        };
-        Ok(self.store.got(&bytes))
-    }
-}
-
-// What was sent, a message a line, or why nothing was done.
-fn report(heap: Global, answer: Answer, out: &mut String) -> anyhow::Result<()> {
-    match answer {
-        Ok(sent) => {
-            let messages = store::messages(heap, &sent)?;
-            for bytes in messages.iter() {
-                text::write_hex(bytes, out)?;
-                out.push('\n')?;
-            }
-            Ok(())
-        }
-        Err(Fault::Refused(refusal)) => {
-            text::write_refusal(refusal, out)?;
-            Ok(())
-        }
-        Err(Fault::NoMemory) => Err(anyhow!("out of memory")),
-    }
-}
-
+// What is sent is printed, a message a line, or else why nothing was done.
 impl Player for Own {
     fn answer(&mut self, line: &[u8], out: &mut String) -> anyhow::Result<()> {
-        let answer = match text::read_line(line) {
-            Line::Blank => return Ok(()),
-            Line::Call(call) => self.store.call(call),
-            Line::Got(digits) => self.got(digits)?,
-            Line::Malformed => Err(Refusal::Malformed.into()),
-        };
-        report(self.heap, answer, out)
+        match text::read_line(line) {
+            Ok(None) => {}
+            Ok(Some(order)) => {
+                let answer = console::follow(self.heap, &mut self.store, order)?;
+                for bytes in console::messages(self.heap, answer, out)? {
+                    text::write_hex(&bytes, out)?;
+                    out.push('\n')?;
+                }
+            }
+            Err(refusal) => text::write_refusal(refusal, out)?,
+        }
+        Ok(())
     }
 }
 
@@ -66,10 +40,9 @@ fn named(heap: Global, arguments: &[u64]) -> Option<Store> {
     let [own, houses] = arguments else {
         return None;
     };
-    if *own >= *houses || *houses > 16 {
-        return None;
-    }
-    Store::new(heap, House(*own as u8), *houses as u8).ok()
+    let own = u8::try_from(*own).ok()?;
+    let houses = u8::try_from(*houses).ok()?;
+    Store::new(heap, House(own), houses).ok()
 }
 
 fn main(rt: HostRuntime) -> anyhow::Result<ExitCode> {

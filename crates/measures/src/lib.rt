@@ -5,18 +5,14 @@
 use node::Answer;
 use std::alloc::{AllocError, Global};
 use store::Store;
-use text::Line;
 use wire::{House, Refusal};
 
+// An empty line is refused as well.
 fn told_line(heap: Global, store: &mut Store, line: &[u8]) -> Result<Answer, AllocError> {
     match text::read_line(line) {
-        Line::Blank => Ok(Err(Refusal::Malformed.into())),
-        Line::Call(call) => Ok(store.call(call)),
-        Line::Got(digits) => match text::read_hex(heap, digits)? {
-            Some(bytes) => Ok(store.got(&bytes)),
-            None => Ok(Err(Refusal::Malformed.into())),
-        },
-        Line::Malformed => Ok(Err(Refusal::Malformed.into())),
+        Ok(Some(order)) => console::follow(heap, store, order),
+        Ok(None) => Ok(Err(Refusal::Malformed.into())),
+        Err(refusal) => Ok(Err(refusal.into())),
     }
 }
 
@@ -26,18 +22,20 @@ fn told(heap: Global, store: &mut Store, lines: &[u8], ends: &[u32]) -> u64 {
     let mut at = 0;
     for end in ends {
         let end = *end as usize;
-        if at <= end && end <= lines.len() {
-            let done = match told_line(heap, store, &lines[at..end]) {
-                Ok(answer) => answer.is_ok(),
-                Err(_) => false,
-            };
-            if !done {
-                refused = refused.saturating_add(1);
-            }
+        if let Some(line) = lines.get(at..end) {
+            let done = told_line(heap, store, line).is_ok_and(|answer| answer.is_ok());
+            refused = refused.saturating_add(u64::from(!done));
             at = end;
         }
     }
     refused
+}
+
+// A house of four that was told some lines, and how many of them it refused; none where memory is wanting.
+fn begun(heap: Global, lines: &[u8], ends: &[u32]) -> Option<(Store, u64)> {
+    let mut store = Store::new(heap, House(0), 4).ok()?;
+    let refused = told(heap, &mut store, lines, ends);
+    Some((store, refused))
 }
 
 // A house is told some lines, and then one more so many times; how many objects it has in the end, and how many of the first lines it refused.
@@ -50,10 +48,10 @@ pub extern "C" fn measures_call(
     times: u32,
     refused: &mut u64,
 ) -> u64 {
-    let Ok(mut store) = Store::new(heap, House(0), 4) else {
+    let Some((mut store, count)) = begun(heap, lines, ends) else {
         return 0;
     };
-    *refused = told(heap, &mut store, lines, ends);
+    *refused = count;
     for _ in 0..times {
         let _ = told_line(heap, &mut store, again);
     }
@@ -70,15 +68,13 @@ pub extern "C" fn measures_hear(
     times: u32,
     refused: &mut u64,
 ) -> u64 {
-    let Ok(mut store) = Store::new(heap, House(0), 4) else {
+    let Some((mut store, count)) = begun(heap, lines, ends) else {
         return 0;
     };
-    *refused = told(heap, &mut store, lines, ends);
+    *refused = count;
     let mut unheard: u64 = 0;
     for _ in 0..times {
-        if store.got(message).is_err() {
-            unheard = unheard.saturating_add(1);
-        }
+        unheard = unheard.saturating_add(u64::from(store.got(message).is_err()));
     }
     unheard
 }

@@ -6,14 +6,13 @@ use anyhow::anyhow;
 use console::Player;
 use lines::Line;
 use node::{Answer, Recipient};
-use objects::Fault;
-use std::alloc::Global;
+use std::alloc::{AllocError, Global};
 use std::fmt::Write;
 use std::process::ExitCode;
 use store::Store;
 use tables::Object;
 use text::Play;
-use wire::{Call, House, Refusal};
+use wire::{House, Refusal};
 
 const USAGE: &str =
     "usage: rehearse N   (N houses, from 1 to 4; calls and deliveries on standard input)";
@@ -29,143 +28,121 @@ struct Rehearsal {
 impl Rehearsal {
     // What a house answered: the messages are kept, and printed with their numbers.
     fn report(&mut self, answer: Answer, out: &mut String) -> anyhow::Result<()> {
-        match answer {
-            Ok(sent) => {
-                for bytes in store::messages(self.heap, &sent)? {
-                    let number = self.sent.len().saturating_add(1);
-                    write!(out, "{number} ")?;
-                    text::write_hex(&bytes, out)?;
-                    out.push('\n')?;
-                    self.sent.push(bytes)?;
-                }
-                Ok(())
-            }
-            Err(Fault::Refused(refusal)) => {
-                text::write_refusal(refusal, out)?;
-                Ok(())
-            }
-            Err(Fault::NoMemory) => Err(anyhow!("out of memory")),
+        for bytes in console::messages(self.heap, answer, out)? {
+            let number = self.sent.len().saturating_add(1);
+            write!(out, "{number} ")?;
+            text::write_hex(&bytes, out)?;
+            out.push('\n')?;
+            self.sent.push(bytes)?;
         }
+        Ok(())
     }
 
-    fn call(&mut self, house: House, call: Call, out: &mut String) -> anyhow::Result<()> {
-        let answer = match self.houses.get_mut(house.0 as usize) {
-            Some(store) => store.call(call),
-            None => Err(Refusal::Malformed.into()),
+    fn malformed(&self, out: &mut String) -> anyhow::Result<()> {
+        Ok(text::write_refusal(Refusal::Malformed, out)?)
+    }
+
+    // What a house answers to this is reported.
+    fn at<F>(&mut self, house: House, act: F, out: &mut String) -> anyhow::Result<()>
+    where
+        F: FnOnce(&mut Store) -> Result<Answer, AllocError> + Drop,
+        requires { F.IsAlwaysCallable act }
+    {
+        let Some(store) = self.houses.get_mut(usize::from(house.0)) else {
+            return self.malformed(out);
         };
+        let answer = act(store)?;
         self.report(answer, out)
     }
 
     // These bytes come to a house.
     fn got(&mut self, house: House, bytes: &[u8], out: &mut String) -> anyhow::Result<()> {
-        let answer = match self.houses.get_mut(house.0 as usize) {
-            Some(store) => store.got(bytes),
-            None => Err(Refusal::Malformed.into()),
-        };
-        self.report(answer, out)
+        self.at(house, |store| Ok(store.got(bytes)), out)
     }
 
     // A copy of a message, counted from 1.
-    fn message(&self, number: u64) -> anyhow::Result<Option<Vec<u8>>> {
-        let Ok(place) = usize::try_from(number) else {
-            return Ok(None);
-        };
-        if place == 0 {
-            return Ok(None);
-        }
-        match self.sent.get(place - 1) {
-            Some(bytes) => Ok(Some(bytes.clone()?)),
-            None => Ok(None),
+    fn message(&self, number: u64) -> Result<Option<Vec<u8>>, AllocError> {
+        let place = number.checked_sub(1).map(usize::try_from);
+        match place {
+            Some(Ok(place)) => self.sent.get(place).map(|bytes| bytes.clone()).transpose(),
+            _ => Ok(None),
         }
     }
 
     fn deliver_at(&mut self, house: House, number: u64, out: &mut String) -> anyhow::Result<()> {
         match self.message(number)? {
             Some(bytes) => self.got(house, &bytes, out),
-            None => self.report(Err(Refusal::Malformed.into()), out),
+            None => self.malformed(out),
         }
     }
 
     // A message comes to whom it is for.
     fn deliver(&mut self, number: u64, out: &mut String) -> anyhow::Result<()> {
         let Some(bytes) = self.message(number)? else {
-            return self.report(Err(Refusal::Malformed.into()), out);
+            return self.malformed(out);
         };
         let count = self.houses.len().min(4) as u8;
-        match wire::read(&bytes, count) {
-            Ok(read) => match node::goes_to(read.message) {
-                Recipient::One(house) => self.got(house, &bytes, out),
-                Recipient::Every => {
-                    for house in 0..count {
-                        self.got(House(house), &bytes, out)?;
-                    }
-                    Ok(())
+        match wire::read(&bytes, count).map(|read| node::goes_to(read.message)) {
+            Ok(Recipient::One(house)) => self.got(house, &bytes, out),
+            Ok(Recipient::Every) => {
+                for house in (0..count).map(House) {
+                    self.got(house, &bytes, out)?;
                 }
-            },
-            Err(refusal) => self.report(Err(refusal.into()), out),
+                Ok(())
+            }
+            Err(refusal) => Ok(text::write_refusal(refusal, out)?),
         }
     }
 
-    fn show(&self, out: &mut String) -> anyhow::Result<()> {
+    fn show(&self, out: &mut String) -> Result<(), AllocError> {
         for (number, store) in self.houses.iter().enumerate() {
-            let census = store.census().0;
-            write!(out, "house {number} census {census}\n")?;
+            let census = store.census();
+            writeln!(out, "house {number} census {census}")?;
             for object in store.objects() {
                 show_object(object, out)?;
             }
             for root in store.roots() {
-                let name = root.0;
-                write!(out, "root {name}\n")?;
+                writeln!(out, "root {root}")?;
             }
-            show_list(store, out)?;
+            for line in (0..2048).map_while(|i| store.line(i)) {
+                show_line(line, out)?;
+            }
         }
         Ok(())
     }
 }
 
-fn show_object(object: &Object, out: &mut String) -> anyhow::Result<()> {
-    let name = object.name().0;
+fn show_object(object: &Object, out: &mut String) -> Result<(), AllocError> {
+    let name = object.name();
     write!(out, "object {name}")?;
     for field in object.fields() {
-        let name = field.0;
-        write!(out, " {name}")?;
+        write!(out, " {field}")?;
     }
-    out.push('\n')?;
-    Ok(())
+    out.push('\n')
 }
 
-fn show_list(store: &Store, out: &mut String) -> anyhow::Result<()> {
-    for i in 0..2048 {
-        let Some(line) = store.line(i) else {
-            break;
-        };
-        show_line(line, out)?;
-    }
-    Ok(())
-}
-
-fn show_line(line: Line, out: &mut String) -> anyhow::Result<()> {
-    let object = line.object.0;
-    let holder = line.holder.0;
-    let stamp = line.stamp.0;
-    let census = line.census.0;
-    write!(out, "line {object} {holder} {stamp} {census}\n")?;
-    Ok(())
+fn show_line(line: Line, out: &mut String) -> Result<(), AllocError> {
+    let Line {
+        object,
+        holder,
+        stamp,
+        census,
+    } = line;
+    writeln!(out, "line {object} {holder} {stamp} {census}")
 }
 
 impl Player for Rehearsal {
     fn answer(&mut self, line: &[u8], out: &mut String) -> anyhow::Result<()> {
         match text::read_play(line) {
-            Play::Blank => Ok(()),
-            Play::CallAt(house, call) => self.call(house, call, out),
-            Play::GotAt(house, digits) => match text::read_hex(self.heap, digits)? {
-                Some(bytes) => self.got(house, &bytes, out),
-                None => self.report(Err(Refusal::Malformed.into()), out),
-            },
-            Play::DeliverAt(house, message) => self.deliver_at(house, message, out),
-            Play::Deliver(message) => self.deliver(message, out),
-            Play::Show => self.show(out),
-            Play::Malformed => self.report(Err(Refusal::Malformed.into()), out),
+            Ok(None) => Ok(()),
+            Ok(Some(Play::At(house, order))) => {
+                let heap = self.heap;
+                self.at(house, |store| console::follow(heap, store, order), out)
+            }
+            Ok(Some(Play::DeliverAt(house, message))) => self.deliver_at(house, message, out),
+            Ok(Some(Play::Deliver(message))) => self.deliver(message, out),
+            Ok(Some(Play::Show)) => Ok(self.show(out)?),
+            Err(refusal) => Ok(text::write_refusal(refusal, out)?),
         }
     }
 }
@@ -175,12 +152,12 @@ fn empty(heap: Global, arguments: &[u64]) -> anyhow::Result<Option<Rehearsal>> {
     let [count] = arguments else {
         return Ok(None);
     };
-    if *count == 0 || *count > 4 {
+    let Ok(count @ 1..=4) = u8::try_from(*count) else {
         return Ok(None);
-    }
+    };
     let mut houses = Vec::new(heap);
-    for house in 0..*count as u8 {
-        let Ok(store) = Store::new(heap, House(house), *count as u8) else {
+    for house in (0..count).map(House) {
+        let Ok(store) = Store::new(heap, house, count) else {
             return Err(anyhow!("out of memory"));
         };
         houses.push(store)?;

@@ -1,8 +1,10 @@
 -- Digits one by one, and numbers that are out of every range.
 use Rattle.std.proofs.Common.{◌≡◌, ℕ, suc, ◌+◌, ◌-◌, ◌*◌, ◌<◌, ◌≤◌, min, true, false, cond, List, [], ◌∷◌, length, get_or, drop, Some, None, refl, ap, ◌∙◌, arith, drop-cons}
+use Rattle.std.proofs.lemmas.Bool.Decides.{nat_tests}
 use native.Mathlib.Nat.{min-eq_left}
 use Rattle.std.proofs.lemmas.List.{drop_all}
-use Rattle.text.specs.Numbers.{is_digit, digits, decimal, capped, most}
+use Rattle.std.specs.Char.{IsDigitOf, NotDecimalDigitIn}
+use Rattle.text.specs.Numbers.{is_digit, digits, capped, most}
 
 more : (a b d : ℕ) → min a most ≡ min b most → min (a * 10 + d) most ≡ min (b * 10 + d) most
 more a b d e = omega arith
@@ -21,10 +23,6 @@ digits_cons : (n c : ℕ) (cs : List ℕ) → digits n (c ∷ cs) ≡ cond (is_d
 unfolding digits
 digits_cons n c cs = refl
 
-pub decimal_some : (w : List ℕ) → 1 ≤ length w → decimal w ≡ digits 0 w
-decimal_some [] h = absurd (omega arith)
-decimal_some (c ∷ cs) h = refl
-
 module _ (w : List ℕ) (i n : ℕ) where
   step : i < length w → digits n (drop i w) ≡ cond (is_digit (get_or w i 0)) (digits (n * 10 + (get_or w i 0 - 48)) (drop (i + 1) w)) None
   step h =
@@ -42,3 +40,10 @@ module _ (w : List ℕ) (i n : ℕ) where
   pub digits_end : length w ≤ i → n ≤ most → capped (digits n (drop i w)) ≡ Some n
   unfolding digits
   digits_end h l = ap (λ cs. capped (digits n cs)) (drop_all i w h) ∙ ap Some (min-eq_left l)
+
+-- what the library says of a byte that is no digit, and of one that is
+pub no_digit : (c : ℕ) → NotDecimalDigitIn 10 c → is_digit c ≡ false
+no_digit c h = grind (arith, nat_tests)
+
+pub a_digit : (c d : ℕ) → IsDigitOf c d → d < 10 → (is_digit c ≡ true) × (d ≡ c - 48)
+a_digit c d h l = grind (arith, nat_tests)

@@ -1,5 +1,6 @@
 -- Hexadecimal.
-use Rattle.std.specs.Prelude.{◌≡◌, ℕ, ◌+◌, ◌-◌, ◌*◌, ◌/◌, ◌%◌, ◌<◌, Bool, cond, ◌&&◌, List, [], ◌∷◌, ◌++◌, Some, None, vec_items, Option, Vec, nat_le, nat_lt, slice_index}
+use Rattle.std.specs.Prelude.{◌≡◌, ℕ, ◌+◌, ◌-◌, ◌*◌, ◌/◌, ◌%◌, ◌<◌, Bool, cond, ◌&&◌, List, [], ◌∷◌, ◌++◌, Some, None, vec_items, Option, option_map, Vec, nat_le, nat_lt, slice_index}
+use Rattle.std.specs.Option.{option_zip}
 use Rattle.std.specs.declared.alloc.Global.{Global}
 
 abbrev pub within : ℕ → ℕ → ℕ → Bool
@@ -9,21 +10,20 @@ within low high c = nat_le low c && nat_le c high
 abbrev pub digit_of : ℕ → Option ℕ
 digit_of c = cond (within 48 57 c) (Some (c - 48)) (cond (within 97 102 c) (Some (c - 87)) (cond (within 65 70 c) (Some (c - 55)) None))
 
-abbrev pub Digit : Option ℕ → Type 0
-Digit None = Unit {0}
-Digit (Some d) = d < 16
+-- the byte that two digits spell
+abbrev pub byte_of : ℕ → ℕ → Option ℕ
+byte_of a b = option_map (λ p. p.0 * 16 + p.1) (option_zip (digit_of a) (digit_of b))
 
-abbrev pub before : Option ℕ → Option ℕ → Option (List ℕ) → Option (List ℕ)
-before None l bs = None
-before (Some h) None bs = None
-before (Some h) (Some l) None = None
-before (Some h) (Some l) (Some bs) = Some ((h * 16 + l) ∷ bs)
+abbrev pub before : Option ℕ → Option (List ℕ) → Option (List ℕ)
+before None bs = None
+before (Some b) None = None
+before (Some b) (Some bs) = Some (b ∷ bs)
 
 -- two digits a byte
 unfoldable pub hex_of : List ℕ → Option (List ℕ)
 hex_of [] = Some []
 hex_of (a ∷ []) = None
-hex_of (a ∷ b ∷ cs) = before (digit_of a) (digit_of b) (hex_of cs)
+hex_of (a ∷ b ∷ cs) = before (byte_of a b) (hex_of cs)
 
 -- bytes before those that are spelled by what is left
 abbrev pub after : List ℕ → Option (List ℕ) → Option (List ℕ)

@@ -1,95 +1,80 @@
 -- Lines by their words.
-use Rattle.std.specs.Prelude.{ℕ, Bool, true, cond, List, [], ◌∷◌, Some, None, codes, Option, ◌==◌}
+use Rattle.std.specs.Prelude.{ℕ, Bool, false, cond, List, [], ◌∷◌, Some, None, Ok, Err, codes, Option, Result, ok_or, option_map, option_and_then, ◌==◌}
 use Rattle.std.specs.Str.{bytes_eq}
 use Rattle.wire.specs.declared.names.House.{House}
-use Rattle.text.specs.declared.calls.Command.{Command}
 use Rattle.wire.specs.declared.call.Call.{Call}
-use Rattle.text.specs.declared.lines.Line.{Line}
-use Rattle.text.specs.declared.lines.Line.TheVariants as line
+use Rattle.wire.specs.declared.refusal.Refusal.{Refusal}
+use Rattle.wire.specs.declared.refusal.Refusal.TheVariants.{Malformed}
+use Rattle.text.specs.declared.lines.Order.{Order}
+use Rattle.text.specs.declared.lines.Order.TheVariants as order
 use Rattle.text.specs.declared.lines.Play.{Play}
 use Rattle.text.specs.declared.lines.Play.TheVariants as play
 use Rattle.text.specs.Words.{none}
-use Rattle.text.specs.Numbers.{decimal, capped, house_of}
+use Rattle.text.specs.Numbers.{house_value}
 use Rattle.text.specs.Calls.{command_of, call_of, sole, number_in}
 
--- what a line says, with the digits themselves in place of a reference to them
+-- what a house is told, with the digits themselves in place of a reference to them
 pub data Said : Type 0 where
-  blank : Said
   call : Call → Said
   got : List ℕ → Said
-  malformed : Said
 
-abbrev pub line_said : Line → Said
-line_said line.Blank = blank
-line_said (line.Call c) = call c
-line_said (line.Got ds) = got ds.now
-line_said line.Malformed = malformed
+abbrev pub said : Order → Said
+said (order.Call c) = call c
+said (order.Got ds) = got ds.now
 
--- hexadecimal digits, of which there must be some
-abbrev pub got_of : List ℕ → Said
-got_of [] = malformed
-got_of (d ∷ ds) = got (d ∷ ds)
-
-abbrev pub call_said : Option Call → Said
-call_said None = malformed
-call_said (Some c) = call c
-
-abbrev pub command_said : Option Command → List (List ℕ) → Said
-command_said None ws = malformed
-command_said (Some c) ws = call_said (call_of c ws)
-
-abbrev pub order_of : List ℕ → List (List ℕ) → Said
-order_of w ws = cond (bytes_eq w (codes "got")) (got_of (sole ws)) (command_said (command_of w) ws)
+-- hexadecimal digits, of which there must be some, or a call
+abbrev pub order_of : List ℕ → List (List ℕ) → Option Said
+order_of w ws = cond (bytes_eq w (codes "got")) (option_map got (sole ws)) (option_map call (option_and_then (λ c. call_of c ws) (command_of w)))
 
 -- a line that begins with # is a comment
 abbrev pub comment : List ℕ → Bool
-comment [] = true
+comment [] = false
 comment (c ∷ cs) = c == 35
 
-abbrev pub line_of : List (List ℕ) → Said
-line_of [] = blank
-line_of (w ∷ ws) = cond (comment w) blank (order_of w ws)
+-- a line that says something has to be of the right form
+abbrev pub formed : {A : Type 0} → Option A → Result (Option A) Refusal
+formed o = ok_or (option_map Some o) Malformed
+
+abbrev pub line_said : Result (Option Order) Refusal → Result (Option Said) Refusal
+line_said (Err e) = Err e
+line_said (Ok o) = Ok (option_map said o)
+
+-- nothing is said by an empty line, nor by a comment
+abbrev pub line_of : List (List ℕ) → Result (Option Said) Refusal
+line_of [] = Ok None
+line_of (w ∷ ws) = cond (comment w) (Ok None) (formed (order_of w ws))
 
 -- what a line of a rehearsal says
 pub data Played : Type 0 where
-  blank : Played
-  call_at : House → Call → Played
-  got_at : House → List ℕ → Played
+  at : House → Said → Played
   deliver_at : House → ℕ → Played
   deliver : ℕ → Played
   show : Played
-  malformed : Played
 
-abbrev pub play_said : Play → Played
-play_said play.Blank = blank
-play_said (play.CallAt h c) = call_at h c
-play_said (play.GotAt h ds) = got_at h ds.now
-play_said (play.DeliverAt h m) = deliver_at h m
-play_said (play.Deliver m) = deliver m
-play_said play.Show = show
-play_said play.Malformed = malformed
+abbrev pub played : Play → Played
+played (play.At h o) = at h (said o)
+played (play.DeliverAt h m) = deliver_at h m
+played (play.Deliver m) = deliver m
+played play.Show = show
 
-abbrev pub delivered : (ℕ → Played) → Option ℕ → Played
-delivered f None = malformed
-delivered f (Some m) = f m
+-- by the first word of what is said at a house
+abbrev pub by_word_at_house : House → List ℕ → List (List ℕ) → Option Played
+by_word_at_house h w ws = cond (bytes_eq w (codes "deliver")) (option_map (deliver_at h) (number_in ws)) (option_map (at h) (order_of w ws))
 
-abbrev pub said_at : House → Said → Played
-said_at h blank = malformed
-said_at h (call c) = call_at h c
-said_at h (got ds) = got_at h ds
-said_at h malformed = malformed
+abbrev pub at_house : House → List (List ℕ) → Option Played
+at_house h [] = None
+at_house h (w ∷ ws) = by_word_at_house h w ws
 
-abbrev pub at_house : House → List (List ℕ) → Played
-at_house h [] = malformed
-at_house h (w ∷ ws) = cond (bytes_eq w (codes "deliver")) (delivered (deliver_at h) (number_in ws)) (said_at h (order_of w ws))
+-- by the first word of a line that is no comment
+abbrev pub by_word : List ℕ → List (List ℕ) → Option Played
+by_word w ws =
+    cond (bytes_eq w (codes "show")) (cond (none ws) (Some show) None)
+    (cond (bytes_eq w (codes "deliver")) (option_map deliver (number_in ws)) (option_and_then (λ h. at_house h ws) (house_value w)))
 
-abbrev pub at_some : Option House → List (List ℕ) → Played
-at_some None ws = malformed
-at_some (Some h) ws = at_house h ws
+abbrev pub play_said : Result (Option Play) Refusal → Result (Option Played) Refusal
+play_said (Err e) = Err e
+play_said (Ok o) = Ok (option_map played o)
 
-abbrev pub play_of : List (List ℕ) → Played
-play_of [] = blank
-play_of (w ∷ ws) =
-    cond (comment w) blank
-    (cond (bytes_eq w (codes "show")) (cond (none ws) show malformed)
-    (cond (bytes_eq w (codes "deliver")) (delivered deliver (number_in ws)) (at_some (house_of (capped (decimal w))) ws)))
+abbrev pub play_of : List (List ℕ) → Result (Option Played) Refusal
+play_of [] = Ok None
+play_of (w ∷ ws) = cond (comment w) (Ok None) (formed (by_word w ws))

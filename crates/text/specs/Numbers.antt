@@ -31,3 +31,13 @@ name_of (Some n) = cond (nat_lt n 4294967296) (Some (record { 0 = n })) None
 abbrev pub house_of : Option ℕ → Option House
 house_of None = None
 house_of (Some n) = cond (nat_lt n 256) (Some (record { 0 = n })) None
+
+-- what a word is read as
+abbrev pub number_value : List ℕ → Option ℕ
+number_value w = capped (decimal w)
+
+abbrev pub name_value : List ℕ → Option Name
+name_value w = name_of (number_value w)
+
+abbrev pub house_value : List ℕ → Option House
+house_value w = house_of (number_value w)

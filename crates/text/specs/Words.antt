@@ -1,14 +1,9 @@
 -- A text as words.
-use Rattle.std.specs.Prelude.{ℕ, suc, Bool, true, false, cond, ◌||◌, List, [], ◌∷◌, ◌++◌, ◌==◌}
+use Rattle.std.specs.Prelude.{ℕ, Bool, true, false, cond, ◌||◌, List, [], ◌∷◌, ◌++◌, ◌==◌}
 
 -- a space, a tab or a carriage return
 abbrev pub is_space : ℕ → Bool
 is_space c = c == 32 || (c == 9 || c == 13)
-
--- a word before others; where it is empty there is none at all
-abbrev pub next : List ℕ → List (List ℕ) → List (List ℕ)
-next [] ws = []
-next (c ∷ cs) ws = (c ∷ cs) ∷ ws
 
 -- a word, begun already, and those after it; one that is empty does not count
 abbrev pub ended : List ℕ → List (List ℕ) → List (List ℕ)
@@ -26,13 +21,3 @@ words text = split [] text
 abbrev pub none : List (List ℕ) → Bool
 none [] = true
 none (w ∷ ws) = false
-
--- without the spaces that it begins with
-unfoldable pub skipped : List ℕ → List ℕ
-skipped [] = []
-skipped (c ∷ cs) = cond (is_space c) (skipped cs) (c ∷ cs)
-
--- how many bytes come before the first space
-unfoldable pub span : List ℕ → ℕ
-span [] = 0
-span (c ∷ cs) = cond (is_space c) 0 (suc (span cs))

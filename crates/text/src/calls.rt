@@ -1,10 +1,10 @@
-ghost use Rattle.std.specs.Prelude.{◌≡◌, if◌then◌else◌, Some, None};
+ghost use Rattle.std.specs.Prelude.{◌≡◌, if◌then◌else◌, Some, None, option_copied};
 ghost use Rattle.text.specs.Words.{words, none};
-ghost use Rattle.text.specs.Calls.{command_of, call_of, sole, number_in, name_in, house_in, names_in, name_and_house_in};
+ghost use Rattle.text.specs.Calls.{command_of, call_of, sole, sole_of, pair_of};
 
-use crate::numbers::{decimal_value, house_value, name_value};
-use crate::words::{first_word, is_blank, is_word};
-use wire::{Call, House, Name};
+use crate::numbers::FromWord;
+use crate::words::{first_word, is_blank};
+use wire::Call;
 
 // The first words of calls.
 #[derive(Clone, Copy)]
@@ -25,75 +25,43 @@ pub enum Command {
 pub fn read_command(word: &[u8]) -> Option<Command>
     ensures { result ≡ command_of word.now }
 {
-    if is_word(word, b"make") {
-        Some(Command::Make)
-    } else if is_word(word, b"link") {
-        Some(Command::Link)
-    } else if is_word(word, b"unlink") {
-        Some(Command::Unlink)
-    } else if is_word(word, b"load") {
-        Some(Command::Load)
-    } else if is_word(word, b"drop") {
-        Some(Command::Drop)
-    } else if is_word(word, b"ask") {
-        Some(Command::Ask)
-    } else if is_word(word, b"collect") {
-        Some(Command::Collect)
-    } else if is_word(word, b"word") {
-        Some(Command::Word)
-    } else if is_word(word, b"join") {
-        Some(Command::Join)
-    } else if is_word(word, b"tell") {
-        Some(Command::Tell)
-    } else if is_word(word, b"round") {
-        Some(Command::Round)
-    } else {
-        None
+    match word {
+        b"make" => Some(Command::Make),
+        b"link" => Some(Command::Link),
+        b"unlink" => Some(Command::Unlink),
+        b"load" => Some(Command::Load),
+        b"drop" => Some(Command::Drop),
+        b"ask" => Some(Command::Ask),
+        b"collect" => Some(Command::Collect),
+        b"word" => Some(Command::Word),
+        b"join" => Some(Command::Join),
+        b"tell" => Some(Command::Tell),
+        b"round" => Some(Command::Round),
+        _ => None,
     }
 }
 
-// The only word of a text; empty where there is none, or more than one.
-pub fn sole_word(text: &[u8]) -> &[u8]
-    ensures { result.now ≡ sole (words text.now) }
+// The only word of a text.
+pub fn sole_word(text: &[u8]) -> Option<&[u8]>
+    ensures { option_copied result ≡ sole (words text.now) }
 {
-    let (word, rest) = first_word(text);
-    if is_blank(rest) { word } else { &[] }
+    let (word, rest) = first_word(text)?;
+    is_blank(rest).then_some(word)
 }
 
-pub fn sole_number(text: &[u8]) -> Option<u64>
-    ensures { result ≡ number_in (words text.now) }
+// What the only word of a text is read as.
+pub fn sole<T: FromWord>(text: &[u8]) -> Option<T>
+    ensures { result ≡ sole_of T.from_word_gives (words text.now) }
 {
-    decimal_value(sole_word(text))
+    T::from_word(sole_word(text)?)
 }
 
-fn sole_name(text: &[u8]) -> Option<Name>
-    ensures { result ≡ name_in (words text.now) }
+// What the only two words of a text are read as.
+fn pair<T: FromWord, U: FromWord>(text: &[u8]) -> Option<(T, U)>
+    ensures { result ≡ pair_of T.from_word_gives U.from_word_gives (words text.now) }
 {
-    name_value(sole_word(text))
-}
-
-fn sole_house(text: &[u8]) -> Option<House>
-    ensures { result ≡ house_in (words text.now) }
-{
-    house_value(sole_word(text))
-}
-
-fn two_names(text: &[u8]) -> Option<(Name, Name)>
-    ensures { result ≡ names_in (words text.now) }
-{
-    let (word, rest) = first_word(text);
-    let object = name_value(word)?;
-    let target = sole_name(rest)?;
-    Some((object, target))
-}
-
-fn name_and_house(text: &[u8]) -> Option<(Name, House)>
-    ensures { result ≡ name_and_house_in (words text.now) }
-{
-    let (word, rest) = first_word(text);
-    let object = name_value(word)?;
-    let to = sole_house(rest)?;
-    Some((object, to))
+    let (word, rest) = first_word(text)?;
+    Some((T::from_word(word)?, sole(rest)?))
 }
 
 // A call by its command and the text after it.
@@ -101,35 +69,15 @@ pub fn read_call(command: Command, rest: &[u8]) -> Option<Call>
     ensures { result ≡ call_of command (words rest.now) }
 {
     match command {
-        Command::Make => Some(Call::Make {
-            number: sole_number(rest)?,
-        }),
-        Command::Link => {
-            let (object, target) = two_names(rest)?;
-            Some(Call::Link { object, target })
-        }
-        Command::Unlink => {
-            let (object, target) = two_names(rest)?;
-            Some(Call::Unlink { object, target })
-        }
-        Command::Load => {
-            let (object, target) = two_names(rest)?;
-            Some(Call::Load { object, target })
-        }
-        Command::Drop => Some(Call::Drop {
-            object: sole_name(rest)?,
-        }),
-        Command::Ask => {
-            let (object, to) = name_and_house(rest)?;
-            Some(Call::Ask { object, to })
-        }
+        Command::Make => sole(rest).map(|number| Call::Make { number }),
+        Command::Link => pair(rest).map(|(object, target)| Call::Link { object, target }),
+        Command::Unlink => pair(rest).map(|(object, target)| Call::Unlink { object, target }),
+        Command::Load => pair(rest).map(|(object, target)| Call::Load { object, target }),
+        Command::Drop => sole(rest).map(|object| Call::Drop { object }),
+        Command::Ask => pair(rest).map(|(object, to)| Call::Ask { object, to }),
         Command::Collect => only(rest, Call::Collect),
-        Command::Word => Some(Call::Word {
-            to: sole_house(rest)?,
-        }),
-        Command::Join => Some(Call::Join {
-            census: sole_number(rest)?,
-        }),
+        Command::Word => sole(rest).map(|to| Call::Word { to }),
+        Command::Join => sole(rest).map(|census| Call::Join { census }),
         Command::Tell => only(rest, Call::Tell),
         Command::Round => only(rest, Call::Round),
     }
@@ -139,5 +87,5 @@ pub fn read_call(command: Command, rest: &[u8]) -> Option<Call>
 fn only(rest: &[u8], call: Call) -> Option<Call>
     ensures { result ≡ (if none (words rest.now) then Some call else None) }
 {
-    if is_blank(rest) { Some(call) } else { None }
+    is_blank(rest).then_some(call)
 }

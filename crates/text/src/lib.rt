@@ -11,6 +11,6 @@ mod words;
 
 pub use calls::{Command, read_call, read_command};
 pub use hex::{read_hex, write_hex};
-pub use lines::{Line, Play, read_line, read_play};
+pub use lines::{Order, Play, read_line, read_play};
 pub use numbers::decimal_value;
 pub use output::{chomp, write_refusal};

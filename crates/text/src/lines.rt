@@ -1,120 +1,94 @@
-ghost use Rattle.std.specs.Prelude.{◌≡◌};
+ghost use Rattle.std.specs.Prelude.{◌≡◌, option_map};
 ghost use Rattle.text.specs.Words.{words};
-ghost use Rattle.text.specs.Lines.{line_said, order_of, line_of, comment, play_said, at_house, play_of};
+ghost use Rattle.text.specs.Lines.{said, order_of, comment, line_said, line_of, played, by_word_at_house, at_house, by_word, play_said, play_of};
 
-use crate::calls::{read_call, read_command, sole_number, sole_word};
-use crate::numbers::house_value;
-use crate::words::{first_word, is_blank, is_word};
-use wire::{Call, House};
+use crate::calls::{read_call, read_command, sole, sole_word};
+use crate::numbers::FromWord;
+use crate::words::{first_word, is_blank};
+use wire::{Call, House, Refusal};
 
-// A line for one house.
+// What a house is told.
 #[derive(Clone, Copy)]
-pub enum Line<'a> {
-    // nothing, or a comment
-    Blank,
+pub enum Order<'a> {
     Call(Call),
     // a message that came, in hexadecimal digits
     Got(&'a [u8]),
-    Malformed,
 }
 
 // A line of a rehearsal.
 #[derive(Clone, Copy)]
 pub enum Play<'a> {
-    // nothing, or a comment
-    Blank,
-    CallAt(House, Call),
-    GotAt(House, &'a [u8]),
+    At(House, Order<'a>),
     // this message, counted from 1, comes to the house
     DeliverAt(House, u64),
     // it comes to whom it is for
     Deliver(u64),
     Show,
-    Malformed,
 }
 
-fn order<'a>(word: &'a [u8], rest: &'a [u8]) -> Line<'a>
-    ensures { line_said result ≡ order_of word.now (words rest.now) }
+fn read_order<'a>(word: &'a [u8], rest: &'a [u8]) -> Option<Order<'a>>
+    ensures { option_map said result ≡ order_of word.now (words rest.now) }
 {
-    if is_word(word, b"got") {
-        let digits = sole_word(rest);
-        return if digits.is_empty() {
-            Line::Malformed
-        } else {
-            Line::Got(digits)
-        };
-    }
-    let Some(command) = read_command(word) else {
-        return Line::Malformed;
-    };
-    match read_call(command, rest) {
-        Some(call) => Line::Call(call),
-        None => Line::Malformed,
+    match word {
+        b"got" => Some(Order::Got(sole_word(rest)?)),
+        _ => Some(Order::Call(read_call(read_command(word)?, rest)?)),
     }
 }
 
-// Whether a word begins a comment, or is none.
+// Whether a line that begins with this word is a comment.
 fn is_comment(word: &[u8]) -> bool
     ensures { result ≡ comment word.now }
 {
-    match word {
-        [] | [b'#', ..] => true,
-        _ => false,
+    matches!(word, [b'#', ..])
+}
+
+// A line of the program `house`, which says nothing where it is empty or a comment.
+pub fn read_line(text: &[u8]) -> Result<Option<Order<'_>>, Refusal>
+    ensures { line_said result ≡ line_of (words text.now) }
+{
+    match first_word(text) {
+        Some((word, rest)) if !is_comment(word) => {
+            read_order(word, rest).map(Some).ok_or(Refusal::Malformed)
+        }
+        _ => Ok(None),
     }
 }
 
-// A line of the program `house`.
-pub fn read_line(text: &[u8]) -> Line<'_>
-    ensures { line_said result ≡ line_of (words text.now) }
+fn by_word_at_house<'a>(house: House, word: &'a [u8], rest: &'a [u8]) -> Option<Play<'a>>
+    ensures { option_map played result ≡ by_word_at_house house word.now (words rest.now) }
 {
-    let (word, rest) = first_word(text);
-    if is_comment(word) {
-        return Line::Blank;
+    match word {
+        b"deliver" => Some(Play::DeliverAt(house, sole(rest)?)),
+        _ => Some(Play::At(house, read_order(word, rest)?)),
     }
-    order(word, rest)
 }
 
 // What is to happen at one house of a rehearsal.
-fn at_house<'a>(house: House, text: &'a [u8]) -> Play<'a>
-    ensures { play_said result ≡ at_house house (words text.now) }
+fn at_house<'a>(house: House, text: &'a [u8]) -> Option<Play<'a>>
+    ensures { option_map played result ≡ at_house house (words text.now) }
 {
-    let (word, rest) = first_word(text);
-    if is_word(word, b"deliver") {
-        return match sole_number(rest) {
-            Some(message) => Play::DeliverAt(house, message),
-            None => Play::Malformed,
-        };
-    }
-    match order(word, rest) {
-        Line::Call(call) => Play::CallAt(house, call),
-        Line::Got(digits) => Play::GotAt(house, digits),
-        Line::Blank | Line::Malformed => Play::Malformed,
+    let (word, rest) = first_word(text)?;
+    by_word_at_house(house, word, rest)
+}
+
+fn by_word<'a>(word: &'a [u8], rest: &'a [u8]) -> Option<Play<'a>>
+    ensures { option_map played result ≡ by_word word.now (words rest.now) }
+{
+    match word {
+        b"show" => is_blank(rest).then_some(Play::Show),
+        b"deliver" => Some(Play::Deliver(sole(rest)?)),
+        _ => at_house(House::from_word(word)?, rest),
     }
 }
 
-// A line of the program `rehearse`.
-pub fn read_play(text: &[u8]) -> Play<'_>
+// A line of the program `rehearse`, which says nothing where it is empty or a comment.
+pub fn read_play(text: &[u8]) -> Result<Option<Play<'_>>, Refusal>
     ensures { play_said result ≡ play_of (words text.now) }
 {
-    let (word, rest) = first_word(text);
-    if is_comment(word) {
-        return Play::Blank;
-    }
-    if is_word(word, b"show") {
-        return if is_blank(rest) {
-            Play::Show
-        } else {
-            Play::Malformed
-        };
-    }
-    if is_word(word, b"deliver") {
-        return match sole_number(rest) {
-            Some(message) => Play::Deliver(message),
-            None => Play::Malformed,
-        };
-    }
-    match house_value(word) {
-        Some(house) => at_house(house, rest),
-        None => Play::Malformed,
+    match first_word(text) {
+        Some((word, rest)) if !is_comment(word) => {
+            by_word(word, rest).map(Some).ok_or(Refusal::Malformed)
+        }
+        _ => Ok(None),
     }
 }

@@ -1,25 +1,10 @@
-ghost use Rattle.std.specs.Prelude.{◌≡◌, ◌+◌, ◌-◌, ◌*◌, ◌<◌, ◌≤◌, min, true};
-ghost use Rattle.text.specs.Numbers.{is_digit, decimal, capped, most, name_of, house_of};
+ghost use Rattle.std.specs.Prelude.{◌≡◌, ℕ, List, Option};
+ghost use Rattle.text.specs.Numbers.{decimal, capped, number_value, name_value, house_value};
 
 use wire::{House, Name};
 
 // What a number of more digits than this counts as: it is out of every range.
 const MOST: u64 = 1_000_000_000_000_000_000;
-
-fn is_digit(c: u8) -> bool
-    ensures value { result ≡ is_digit c }
-    ensures range { result ≡ true → (48 ≤ c) × (c ≤ 57) }
-{
-    c >= b'0' && c <= b'9'
-}
-
-// One digit more.
-fn with_digit(n: u64, digit: u8) -> u64
-    requires { (n ≤ most) × (digit < 10) }
-    ensures { result ≡ min (n * 10 + digit) most }
-{
-    (n * 10 + digit as u64).min(MOST)
-}
 
 // The value of a decimal number of any length, or none where the word is no number.
 pub fn decimal_value(word: &[u8]) -> Option<u64>
@@ -30,30 +15,41 @@ pub fn decimal_value(word: &[u8]) -> Option<u64>
     }
     let mut n = 0;
     for c in word {
-        if !is_digit(*c) {
-            return None;
-        }
-        n = with_digit(n, *c - b'0');
+        let digit = char::from(*c).to_digit(10)?;
+        n = (n * 10 + u64::from(digit)).min(MOST);
     }
     Some(n)
 }
 
-// A name by its number.
-pub fn name_value(word: &[u8]) -> Option<Name>
-    ensures { result ≡ name_of (capped (decimal word.now)) }
-{
-    match decimal_value(word) {
-        Some(n) if n < 4294967296 => Some(Name(n as u32)),
-        _ => None,
+// What can be read of one word.
+pub trait FromWord: Sized + Drop {
+    ghost from_word_gives: { List ℕ → Option Self };
+
+    fn from_word(word: &[u8]) -> Option<Self>
+        ensures { result ≡ from_word_gives word.now };
+}
+
+impl FromWord for u64 {
+    ghost from_word_gives = { number_value };
+
+    fn from_word(word: &[u8]) -> Option<u64> {
+        decimal_value(word)
     }
 }
 
-// A house by its number; whether there is such a house is seen elsewhere.
-pub fn house_value(word: &[u8]) -> Option<House>
-    ensures { result ≡ house_of (capped (decimal word.now)) }
-{
-    match decimal_value(word) {
-        Some(n) if n < 256 => Some(House(n as u8)),
-        _ => None,
+impl FromWord for Name {
+    ghost from_word_gives = { name_value };
+
+    fn from_word(word: &[u8]) -> Option<Name> {
+        u32::try_from(decimal_value(word)?).ok().map(Name)
+    }
+}
+
+// Whether there is such a house is seen elsewhere.
+impl FromWord for House {
+    ghost from_word_gives = { house_value };
+
+    fn from_word(word: &[u8]) -> Option<House> {
+        u8::try_from(decimal_value(word)?).ok().map(House)
     }
 }

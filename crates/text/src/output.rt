@@ -1,17 +1,15 @@
 ghost use Rattle.std.specs.Prelude.{◌≡◌, ◌++◌, string_bytes, OnOk};
 ghost use Rattle.text.specs.Output.{refusal_line, chomped};
 
-use std::fmt;
+use std::alloc::AllocError;
 use std::fmt::Write;
 use wire::Refusal;
 
 // The line that says which refusal it was.
-pub fn write_refusal(refusal: Refusal, out: &mut String) -> fmt::Result
+pub fn write_refusal(refusal: Refusal, out: &mut String) -> Result<(), AllocError>
     ensures { OnOk result (string_bytes out.new ≡ string_bytes out.old ++ refusal_line refusal) }
 {
-    let number = refusal.number();
-    write!(out, "no {number}\n")?;
-    Ok(())
+    writeln!(out, "no {refusal}")
 }
 
 // A line without the newline that ends it.

@@ -1,9 +1,14 @@
-use Rattle.text.proofs.Splits.{first_word_of}
+use Rattle.std.proofs.Common.{sym, ◌∙◌, arith}
+use Rattle.std.proofs.lemmas.Grind.{common_steps}
+use Rattle.text.proofs.Splits.{none_of, first_of}
 use Rattle.text.proofs.words.first_word.Goals as goal
+
+pub returns-in_err-start : goal.returns-in_err-start
+returns-in_err-start c = rw c.from_residual.ensures (none_of c.args.text.now (sym c.word_start.ensures ∙ c.in_err-start.was))
 
 pub returns : goal.returns
 returns c =
-    first_word_of c.args.text.now c.skip_spaces-rest.result.now c.split_at.result.0.now c.split_at.result.1.now c.word_len.result c.skip_spaces-rest.ensures
-    c.word_len.ensures.value
+    first_of c.args.text.now c.in_ok-start.start c.unwrap_or-end.result _ c.split_at.result.0.now c.split_at.result.1.now (sym c.word_start.ensures ∙ c.in_ok-start.was) (grind (arith, common_steps))
+    (rw (sym c.word_end.ensures) c.unwrap_or-end.ensures)
     c.split_at.ensures.front
     c.split_at.ensures.back

@@ -1,0 +1,26 @@
+-- What becomes of an order, and what is printed of an answer.
+use Rattle.std.specs.Prelude.{◌≡◌, ℕ, List, [], ◌++◌, map, option_map, Some, None, Ok, Err, Option}
+use Rattle.wire.specs.declared.refusal.Refusal.TheVariants.{Malformed}
+use Rattle.text.specs.Hex.{hex_of}
+use Rattle.text.specs.Lines.{Said, call, got}
+use Rattle.text.specs.Output.{refusal_line}
+use Rattle.objects.specs.declared.fault.Fault.TheVariants.{Refused, NoMemory}
+use Rattle.node.specs.House.{House}
+use Rattle.node.specs.Shown.{Answer, letters, event_of}
+use Rattle.node.specs.Step.{Outcome, Event, came, refused, step}
+use Rattle.store.specs.Sending.{bytes_of}
+
+-- the event that an order is; none where its digits spell no bytes
+abbrev pub event_in : Said → Option Event
+event_in (call c) = Some (event_of c)
+event_in (got ds) = option_map came (hex_of ds)
+
+abbrev pub outcome_of : Option Event → House → Outcome
+outcome_of None h = refused Malformed h
+outcome_of (Some e) h = step h e
+
+-- messages are handed on, and a refusal is printed
+abbrev pub Shows : Answer → List (List ℕ) → List ℕ → List ℕ → Type 0
+Shows (Ok s) messages before after = (messages ≡ map bytes_of (letters s)) × (after ≡ before)
+Shows (Err (Refused e)) messages before after = (messages ≡ []) × (after ≡ before ++ refusal_line e)
+Shows (Err NoMemory) messages before after = ⊥

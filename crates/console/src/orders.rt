@@ -1,0 +1,42 @@
+ghost use Rattle.std.specs.Prelude.{◌≡◌, string_bytes, IfOk, OnErr};
+ghost use Rattle.text.specs.Lines.{said};
+ghost use Rattle.node.specs.Shown.{Gives};
+ghost use Rattle.store.specs.Sending.{contents};
+ghost use Rattle.store.specs.Stores.{house_in};
+ghost use Rattle.console.specs.Orders.{event_in, outcome_of, Shows};
+
+use anyhow::anyhow;
+use node::Answer;
+use objects::Fault;
+use std::alloc::{AllocError, Global};
+use store::Store;
+use text::Order;
+use wire::Refusal;
+
+// A house does what it is told.
+pub fn follow(heap: Global, store: &mut Store, order: Order<'_>) -> Result<Answer, AllocError>
+    ensures step { IfOk result (λ a. Gives a (outcome_of (event_in (said order.entry)) (house_in store.old)) (house_in store.old) (house_in store.new)) }
+    ensures kept { OnErr result (house_in store.new ≡ house_in store.old) }
+{
+    match order {
+        Order::Call(call) => Ok(store.call(call)),
+        Order::Got(digits) => match text::read_hex(heap, digits)? {
+            Some(bytes) => Ok(store.got(&bytes)),
+            None => Ok(Err(Refusal::Malformed.into())),
+        },
+    }
+}
+
+// The messages that a house answered with. Where it refused there are none, and `out` says which refusal it was.
+pub fn messages(heap: Global, answer: Answer, out: &mut String) -> anyhow::Result<Vec<Vec<u8>>>
+    ensures { IfOk result (λ v. Shows answer (contents v) (string_bytes out.old) (string_bytes out.new)) }
+{
+    match answer {
+        Ok(sent) => Ok(store::messages(heap, &sent)?),
+        Err(Fault::Refused(refusal)) => {
+            text::write_refusal(refusal, out)?;
+            Ok(Vec::new(heap))
+        }
+        Err(Fault::NoMemory) => Err(anyhow!("out of memory")),
+    }
+}

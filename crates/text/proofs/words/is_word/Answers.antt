@@ -1,9 +1,0 @@
-use Rattle.std.proofs.Common.{◌≡◌, Decides, rules}
-use Rattle.std.proofs.lemmas.Slice.Eq.{bytes_eq-Decides, slice_eq-Decides}
-use Rattle.text.proofs.words.is_word.Goals as goal
-use Rattle.std.proofs.lemmas.Bool.Decides.{Decides-eqb}
-
-pub returns : goal.returns
-returns c =
-    let same : Decides c.eq.result (c.args.word.now ≡ c.args.other.now) = slice_eq-Decides Decides-eqb _ _ _ c.eq.ensures in
-    search (rules, bytes_eq-Decides)
