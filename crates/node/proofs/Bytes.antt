@@ -1,5 +1,5 @@
 -- Names as numbers and as bytes.
-use Rattle.std.proofs.Common.{◌≡◌, ℕ, ◌+◌, ◌-◌, ◌<◌, List, [], ◌∷◌, ◌++◌, map, length, get_or, take, IfOk, Ok, Err, vec_items, Result, Vec, sym, refl, ap, ◌∙◌, append_assoc, arith}
+use Rattle.std.proofs.Common.{◌≡◌, ℕ, ◌+◌, ◌<◌, List, [], ◌∷◌, ◌++◌, map, length, get_or, take, IfOk, Ok, Err, vec_items, Result, Vec, sym, refl, ap, ◌∙◌, append_assoc}
 use Rattle.std.proofs.lemmas.List.{take_more, map-append}
 use Rattle.wire.specs.declared.names.Name.{Name}
 use Rattle.wire.specs.Names.{name}

@@ -1,5 +1,5 @@
 -- A step changes no house into another, and a refusal changes nothing.
-use Rattle.std.proofs.Common.{◌≡◌, ℕ, Bool, true, false, cond, not, ◌||◌, eqb, ltb, leb, List, [], is_ok, Ok, Err, Result, sym, refl, arith}
+use Rattle.std.proofs.Common.{◌≡◌, ℕ, Bool, true, false, cond, not, ◌||◌, eqb, ltb, leb, List, [], is_ok, Ok, Err, Result, sym, refl, ap, ◌∙◌, arith}
 use Rattle.std.proofs.lemmas.Bool.{ltb-false, eq-eqb}
 use Rattle.wire.specs.declared.message.Message.{Message}
 use Rattle.wire.specs.declared.message.Message.TheVariants as message
@@ -13,8 +13,14 @@ use Rattle.objects.specs.Calls.{make_answer, made_new, link_answer, linked_to, u
 use Rattle.lines.specs.Listed.{fits, belongs}
 use Rattle.lines.specs.Stamping.{next_for, seen_from}
 use Rattle.node.specs.House.{House, self, houses, census, with_heap, with_part}
-use Rattle.node.specs.Step.{Outcome, make, link, unlink, load, drop, ask, collect, word, join, tell, round, came, Letter, refused, refuse_if, sends, quietly, in_census, caught_up, marks, stamped, took_it, replies_to, receives, read_as, handed, authorised}
+use Rattle.node.specs.Step.{Outcome, Event, step, make, link, unlink, load, drop, ask, collect, word, join, tell, round, came, Letter, refused, refuse_if, sends, quietly, in_census, caught_up, marks, stamped, took_it, replies_to, receives, read_as, handed, authorised}
 use Rattle.node.specs.Laws.{Fair, AlwaysFair}
+use Rattle.objects.specs.declared.fault.Fault.TheVariants.{Refused, NoMemory}
+use Rattle.objects.specs.declared.store.Objects.{Objects}
+use Rattle.lines.specs.declared.table.Lines.{Lines}
+use Rattle.node.specs.declared.head.Head.{Head}
+use Rattle.node.specs.Tied.{Tied}
+use Rattle.node.specs.Shown.{Answer, Gives, Steps, house_of}
 
 pub by_cases : {X : Type 0} (b : Bool) → (b ≡ true → X) → (b ≡ false → X) → X
 by_cases true f g = f refl
@@ -110,3 +116,15 @@ always_fair h (join c) = fair_if (leb c (census h) || ltb 4294967295 c) OutOfNum
 always_fair h tell = fair_sends _ h _ refl refl
 always_fair h round = fair_refused _ h
 always_fair h (came bs) = fair_read (decode (houses h) bs) bs h
+
+-- so the house afterwards is the same house
+pub same_house : (a : Answer) (h g : House) (x : Outcome) → Fair h x → Gives a x h g → (g.heap.home ≡ h.heap.home) × (g.heap.houses ≡ h.heap.houses)
+same_house (Ok s) h g x f e = (sym (ap (λ y. y.house.heap.home) e) ∙ f.home, sym (ap (λ y. y.house.heap.houses) e) ∙ f.houses)
+same_house (Err (Refused r)) h g x f e = (sym (ap (λ y. y.house.heap.home) e) ∙ f.home, sym (ap (λ y. y.house.heap.houses) e) ∙ f.houses)
+same_house (Err NoMemory) h g x f e = (ap (λ y. y.heap.home) e, ap (λ y. y.heap.houses) e)
+
+-- and its objects are still tied to the list
+pub still_tied : (e : Event) (h : Head) (os qs : Objects) (ls : Lines) (r : Head × Answer) → Tied os ls → Steps r e (house_of h os ls) qs ls → Tied qs ls
+still_tied e h os qs ls r t s =
+    let same = same_house r.1 (house_of h os ls) (house_of r.0 qs ls) (step (house_of h os ls) e) (always_fair (house_of h os ls) e) s in
+    record { home = t.home ∙ sym same.0; houses = t.houses ∙ sym same.1; room = t.room }

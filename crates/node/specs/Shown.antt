@@ -6,7 +6,9 @@ use Rattle.objects.specs.declared.fault.Fault.{Fault}
 use Rattle.objects.specs.declared.fault.Fault.TheVariants.{Refused, NoMemory}
 use Rattle.wire.specs.Names.{name}
 use Rattle.tables.specs.Shown.{numbers}
+use Rattle.objects.specs.declared.store.Objects.{Objects}
 use Rattle.objects.specs.Calls.{heap_of}
+use Rattle.lines.specs.declared.table.Lines.{Lines}
 use Rattle.lines.specs.Lists.{lines, Lent}
 use Rattle.census.specs.Standings.{part_of}
 use Rattle.node.specs.declared.head.Head.{Head}
@@ -18,8 +20,12 @@ use Rattle.wire.specs.declared.call.Call.{Call}
 use Rattle.wire.specs.declared.call.Call.TheVariants as call
 use Rattle.node.specs.Step.{Letter, Outcome, letter, Event, make, link, unlink, load, drop, ask, collect, word, join, tell, round, step}
 
-abbrev pub house_of : Head → Tables → House
-house_of h t = record { heap = heap_of t.objects.now; list = lines t.list.now; stamps = h.stamps; part = part_of h.standing }
+abbrev pub house_of : Head → Objects → Lines → House
+house_of h os ls = record { heap = heap_of os; list = lines ls; stamps = h.stamps; part = part_of h.standing }
+
+-- the house whose tables are lent together
+abbrev pub house_lent : Head → Tables → House
+house_lent h t = house_of h t.objects.now t.list.now
 
 -- u lies in the memory that t lies in, and is of the same house
 pub record SameLoan (t u : Tables) : Type 0 where
@@ -50,12 +56,16 @@ quieted (Err e) = Err (Refused e)
 
 -- What a method of head h did with tables t: the head and the answer that it hands back, with the tables u as they are then, are the outcome of the rule.
 pub record Does (rule : House → Outcome) (h : Head) (t : Tables) (r : Head × Answer) (u : Tables) : Type 0 where
-  pub step : Gives r.1 (rule (house_of h t)) (house_of h t) (house_of r.0 u)
+  pub step : Gives r.1 (rule (house_lent h t)) (house_lent h t) (house_lent r.0 u)
   pub lent : SameLoan t u
 
--- the rule is the step at an event
-abbrev pub Steps : Event → Head → Tables → Head × Answer → Tables → Type 0
-Steps e = Does (λ h. step h e)
+-- the step at an event, as a rule
+abbrev pub by : Event → House → Outcome
+by e h = step h e
+
+-- what a method handed back is the step of a house at an event
+abbrev pub Steps : Head × Answer → Event → House → Objects → Lines → Type 0
+Steps r e before os ls = Gives r.1 (step before e) before (house_of r.0 os ls)
 
 -- the event that a call is
 abbrev pub event_of : Call → Event

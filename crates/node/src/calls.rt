@@ -1,10 +1,11 @@
 ghost use Rattle.std.specs.Prelude.{◌≡◌};
 ghost use Rattle.node.specs.Step.{make, link, unlink, load, drop, ask, round};
-ghost use Rattle.node.specs.Shown.{Steps, quieted};
+ghost use Rattle.node.specs.Shown.{house_of, Steps, quieted};
 
 use crate::head::Head;
-use crate::lent::Tables;
 use crate::sent::{Answer, Sent};
+use lines::Lines;
+use objects::Objects;
 use wire::{House, Message, Name, Refusal};
 
 // A call that sends nothing.
@@ -15,54 +16,73 @@ pub(crate) fn quiet(res: Result<(), Refusal>) -> Answer
     Ok(Sent::Nothing)
 }
 
+// These calls ask for no tie between objects and list, so they take the two as they are.
 impl Head {
-    pub fn make(self, tables: &mut Tables, number: u64) -> (Head, Answer)
-        ensures { Steps (make number) self tables.old result tables.new }
+    pub fn make(self, objects: &mut Objects, list: &Lines, number: u64) -> (Head, Answer)
+        ensures { Steps result (make number) (house_of self objects.old list.now) objects.new list.now }
     {
-        (self, quiet(tables.objects.make(number).map(|_| ())))
+        (self, quiet(objects.make(number).map(|_| ())))
     }
 
-    pub fn link(self, tables: &mut Tables, object: Name, target: Name) -> (Head, Answer)
-        ensures { Steps (link object.0 target.0) self tables.old result tables.new }
+    pub fn link(
+        self,
+        objects: &mut Objects,
+        list: &Lines,
+        object: Name,
+        target: Name,
+    ) -> (Head, Answer)
+        ensures { Steps result (link object.0 target.0) (house_of self objects.old list.now) objects.new list.now }
     {
-        (self, quiet(tables.objects.link(object, target)))
+        (self, quiet(objects.link(object, target)))
     }
 
-    pub fn unlink(self, tables: &mut Tables, object: Name, target: Name) -> (Head, Answer)
-        ensures { Steps (unlink object.0 target.0) self tables.old result tables.new }
+    pub fn unlink(
+        self,
+        objects: &mut Objects,
+        list: &Lines,
+        object: Name,
+        target: Name,
+    ) -> (Head, Answer)
+        ensures { Steps result (unlink object.0 target.0) (house_of self objects.old list.now) objects.new list.now }
     {
-        (self, quiet(tables.objects.unlink(object, target)))
+        (self, quiet(objects.unlink(object, target)))
     }
 
-    pub fn load(self, tables: &mut Tables, object: Name, target: Name) -> (Head, Answer)
-        ensures { Steps (load object.0 target.0) self tables.old result tables.new }
+    pub fn load(
+        self,
+        objects: &mut Objects,
+        list: &Lines,
+        object: Name,
+        target: Name,
+    ) -> (Head, Answer)
+        ensures { Steps result (load object.0 target.0) (house_of self objects.old list.now) objects.new list.now }
     {
-        (self, quiet(tables.objects.load(object, target)))
+        (self, quiet(objects.load(object, target)))
     }
 
-    pub fn release(self, tables: &mut Tables, object: Name) -> (Head, Answer)
-        ensures { Steps (drop object.0) self tables.old result tables.new }
+    pub fn release(self, objects: &mut Objects, list: &Lines, object: Name) -> (Head, Answer)
+        ensures { Steps result (drop object.0) (house_of self objects.old list.now) objects.new list.now }
     {
-        (self, quiet(tables.objects.release(object)))
+        (self, quiet(objects.release(object)))
     }
 
     // A root is to be handed to house `to`: its home is asked to.
-    pub fn ask(self, tables: &Tables, object: Name, to: House) -> (Head, Answer)
-        ensures { Steps (ask object.0 to.0) self tables.now result tables.now }
+    pub fn ask(self, objects: &Objects, list: &Lines, object: Name, to: House) -> (Head, Answer)
+        ensures { Steps result (ask object.0 to.0) (house_of self objects.now list.now) objects.now list.now }
     {
-        let houses = tables.objects.houses();
+        let houses = objects.houses();
         if !object.is_well_formed(houses) || to.0 >= houses {
             return (self, Err(Refusal::Malformed.into()));
         }
-        if !tables.objects.is_root(object) {
+        if !objects.is_root(object) {
             return (self, Err(Refusal::NotRoot.into()));
         }
-        let by = tables.objects.home();
+        let by = objects.home();
         (self, Ok(Sent::One(Message::Ask { object, by, to })))
     }
 
-    pub fn round(self, tables: &Tables) -> (Head, Answer)
-        ensures { Steps round self tables.now result tables.now }
+    pub fn round(self, objects: &Objects, list: &Lines) -> (Head, Answer)
+        ensures { Steps result round (house_of self objects.now list.now) objects.now list.now }
     {
         (self, Err(Refusal::WrongHouse.into()))
     }

@@ -3,41 +3,45 @@ ghost use Rattle.tables.specs.Shown.{numbers};
 ghost use Rattle.objects.specs.Calls.{heap_of};
 ghost use Rattle.node.specs.Executed.{names_in_use};
 ghost use Rattle.node.specs.Step.{used, caught_up, polled, worded, bytes_of, collect, word, join, tell};
-ghost use Rattle.node.specs.Shown.{house_of, Does, Steps};
+ghost use Rattle.lines.specs.declared.table.Lines.{Lines};
+ghost use Rattle.lines.specs.Lists.{Lent};
+ghost use Rattle.node.specs.Shown.{by, house_lent, house_of, Does, Gives, Steps};
 
 use crate::head::Head;
 use crate::lent::Tables;
 use crate::sent::{Answer, Sent};
+use lines::Lines;
 use objects::{Fault, Objects};
 use std::alloc::{AllocError, Global};
 use wire::{Census, House, Message, Name, Part, Refusal, RoundNumber};
 
 impl Head {
     // The objects that are met neither from the roots nor from the list are freed.
-    pub fn collect(self, tables: &mut Tables) -> (Head, Answer)
-        ensures { Steps collect self tables.old result tables.new }
+    pub fn collect(self, objects: &mut Objects, list: &Lines) -> (Head, Answer)
+        ensures { Steps result collect (house_of self objects.old list.now) objects.new list.now }
     {
         let mut names = [Name(0); 2048];
-        let listed = tables.list.objects(&mut names);
-        tables.objects.collect(listed);
+        let listed = list.objects(&mut names);
+        objects.collect(listed);
         (self, Ok(Sent::Nothing))
     }
 
     // A census of this number is joined.
-    pub fn join(self, tables: &mut Tables, census: u64) -> (Head, Answer)
-        ensures { Steps (join census) self tables.old result tables.new }
+    pub fn join(self, objects: &Objects, list: &mut Lines, census: u64) -> (Head, Answer)
+        ensures step { Steps result (join census) (house_of self objects.now list.old) objects.now list.new }
+        ensures lent { Lent list.old list.new }
     {
         let census = match u32::try_from(census) {
             Ok(number) if Census(number) > self.standing.census() => Census(number),
             _ => return (self, Err(Refusal::OutOfNumbers.into())),
         };
-        let head = self.catch_up(tables, census);
+        let head = self.catch_up(list, census);
         (head, Ok(Sent::Nothing))
     }
 
     // The far references that are in use once a census is joined, if it is above the own; nothing is joined yet.
     fn in_use(&self, tables: &Tables, census: Census) -> Result<Vec<Name>, AllocError>
-        ensures { IfOk result (λ v. numbers v.items ≡ used (caught_up census.0 (house_of self.now tables.now))) }
+        ensures { IfOk result (λ v. numbers v.items ≡ used (caught_up census.0 (house_lent self.now tables.now))) }
     {
         let own = self.standing.census();
         let mut names = [Name(0); 2048];
@@ -53,7 +57,7 @@ impl Head {
 
     // All that is in use of other houses is told to them, until they answer.
     pub fn tell(mut self, tables: &Tables) -> (Head, Answer)
-        ensures { Steps tell self tables.now result tables.now }
+        ensures { Does (by tell) self tables.now result tables.now }
     {
         let census = self.standing.census();
         let Ok(in_use) = self.in_use(tables, census) else {
@@ -82,7 +86,7 @@ impl Head {
         let Ok(in_use) = self.in_use(tables, census) else {
             return (self, Err(Fault::NoMemory));
         };
-        let mut head = self.catch_up(tables, census);
+        let mut head = self.catch_up(tables.list, census);
         let (standing, answer) = head
             .standing
             .reply(tables.list.home, census, number, &in_use);
@@ -91,24 +95,24 @@ impl Head {
     }
 
     // House `to` is told which of its objects this house has, and how far it has taken what was handed to it.
-    pub fn word(self, tables: &Tables, to: House) -> (Head, Answer)
-        ensures { Steps (word to.0) self tables.now result tables.now }
+    pub fn word(self, objects: &Objects, list: &Lines, to: House) -> (Head, Answer)
+        ensures { Steps result (word to.0) (house_of self objects.now list.now) objects.now list.now }
     {
-        let answer = self.word_for(tables, to);
+        let answer = self.word_for(objects, to);
         (self, answer)
     }
 
-    fn word_for(&self, tables: &Tables, to: House) -> Answer
-        ensures { Does (worded to.0) self.now tables.now (self.now, result) tables.now }
+    fn word_for(&self, objects: &Objects, to: House) -> Answer
+        ensures { (ls : Lines) → Gives result (worded to.0 (house_of self.now objects.now ls)) (house_of self.now objects.now ls) (house_of self.now objects.now ls) }
     {
-        let from = tables.objects.home();
-        if to.0 >= tables.objects.houses() {
+        let from = objects.home();
+        if to.0 >= objects.houses() {
             return Err(Refusal::Malformed.into());
         }
         if to == from {
             return Err(Refusal::WrongHouse.into());
         }
-        let names = tables.objects.references_of(self.heap, to)?;
+        let names = objects.references_of(self.heap, to)?;
         // there are at most 8,448 of them, so the count fits
         let Ok(count) = u16::try_from(names.len()) else {
             return Err(Fault::NoMemory);

@@ -3,7 +3,7 @@ ghost use Rattle.lines.specs.Stamping.{unstamped};
 ghost use Rattle.census.specs.Model.{fresh};
 ghost use Rattle.census.specs.Standings.{part_of};
 ghost use Rattle.node.specs.Laws.{Lawful};
-ghost use Rattle.node.specs.Shown.{Steps, event_of};
+ghost use Rattle.node.specs.Shown.{by, Does, event_of};
 
 use crate::head::Head;
 use crate::lent::Tables;
@@ -36,20 +36,25 @@ impl Head {
 
     // A call of the house's programs, or of its collector.
     pub fn call(self, tables: &mut Tables, call: Call) -> (Head, Answer)
-        ensures { Steps (event_of call) self tables.old result tables.new }
+        ensures { Does (by (event_of call)) self tables.old result tables.new }
     {
         match call {
-            Call::Make { number } => self.make(tables, number),
-            Call::Link { object, target } => self.link(tables, object, target),
-            Call::Unlink { object, target } => self.unlink(tables, object, target),
-            Call::Load { object, target } => self.load(tables, object, target),
-            Call::Drop { object } => self.release(tables, object),
-            Call::Ask { object, to } => self.ask(tables, object, to),
-            Call::Collect => self.collect(tables),
-            Call::Word { to } => self.word(tables, to),
-            Call::Join { census } => self.join(tables, census),
+            Call::Make { number } => self.make(tables.objects, tables.list, number),
+            Call::Link { object, target } => self.link(tables.objects, tables.list, object, target),
+            Call::Unlink { object, target } => self.unlink(
+                tables.objects,
+                tables.list,
+                object,
+                target,
+            ),
+            Call::Load { object, target } => self.load(tables.objects, tables.list, object, target),
+            Call::Drop { object } => self.release(tables.objects, tables.list, object),
+            Call::Ask { object, to } => self.ask(tables.objects, tables.list, object, to),
+            Call::Collect => self.collect(tables.objects, tables.list),
+            Call::Word { to } => self.word(tables.objects, tables.list, to),
+            Call::Join { census } => self.join(tables.objects, tables.list, census),
             Call::Tell => self.tell(tables),
-            Call::Round => self.round(tables),
+            Call::Round => self.round(tables.objects, tables.list),
         }
     }
 }

@@ -2,24 +2,26 @@ ghost use Rattle.std.specs.Prelude.{◌≡◌, true, if◌then◌else◌, nat_lt
 ghost use Rattle.wire.specs.Format.{numbers, rising};
 ghost use Rattle.objects.specs.Calls.{heap_of};
 ghost use Rattle.lines.specs.Listed.{joined};
-ghost use Rattle.lines.specs.Lists.{lines};
+ghost use Rattle.lines.specs.Lists.{lines, Lent};
+ghost use Rattle.objects.specs.declared.store.Objects.{Objects};
 ghost use Rattle.lines.specs.Stamping.{heard_from};
 ghost use Rattle.census.specs.Model.{fresh};
 ghost use Rattle.census.specs.Standings.{part_of};
 ghost use Rattle.node.specs.Step.{authorised, caught_up, gives, handed, takes, hears, told, settles, sweeps};
-ghost use Rattle.node.specs.Shown.{house_of, Does, SameLoan};
+ghost use Rattle.node.specs.Shown.{house_lent, house_of, Does};
 
 use crate::calls::quiet;
 use crate::head::Head;
 use crate::lent::Tables;
 use crate::sent::{Answer, Sent};
 use census::Marked;
+use lines::Lines;
 use wire::{Census, House, Message, Name, Refusal, Stamp};
 
 impl Head {
     // Whether `by` may have the object handed on: it is the home itself and has it as a root, or holds it by a line of the home's census.
     fn authorises(&self, tables: &Tables, object: Name, by: House) -> bool
-        ensures { result ≡ authorised object.0 by.0 (house_of self.now tables.now) }
+        ensures { result ≡ authorised object.0 by.0 (house_lent self.now tables.now) }
     {
         (by == tables.list.home && tables.objects.is_root(object))
             || tables.list.is_held(object, by, self.standing.census())
@@ -115,14 +117,14 @@ impl Head {
     }
 
     // A census above the own is joined.
-    pub(crate) fn catch_up(mut self, tables: &mut Tables, census: Census) -> Head
-        ensures after { house_of result tables.new ≡ caught_up census.0 (house_of self tables.old) }
-        ensures lent { SameLoan tables.old tables.new }
+    pub(crate) fn catch_up(mut self, list: &mut Lines, census: Census) -> Head
+        ensures after { (os : Objects) → house_of result os list.new ≡ caught_up census.0 (house_of self os list.old) }
+        ensures lent { Lent list.old list.new }
     {
         if census <= self.standing.census() {
             return self;
         }
-        tables.list.join(census, &self.stamps);
+        list.join(census, &self.stamps);
         (self.standing, _) = self.standing.join(census);
         self
     }
@@ -144,7 +146,7 @@ impl Head {
         if census < self.standing.census() {
             return (self, Err(Refusal::OtherCensus.into()));
         }
-        let mut head = self.catch_up(tables, census);
+        let mut head = self.catch_up(tables.list, census);
         if tables.list.mark(object, from, census) {
             head.standing = head.standing.counted(Marked::New);
         }

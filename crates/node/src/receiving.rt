@@ -1,7 +1,7 @@
 ghost use Rattle.std.specs.Prelude.{◌≡◌};
 ghost use Rattle.wire.specs.Laws.{Rises};
 ghost use Rattle.node.specs.Step.{receives, came};
-ghost use Rattle.node.specs.Shown.{Does, Steps};
+ghost use Rattle.node.specs.Shown.{by, Does};
 
 use crate::head::Head;
 use crate::lent::Tables;
@@ -41,7 +41,7 @@ impl Head {
 
     // These bytes came, whatever they are.
     pub fn got(self, tables: &mut Tables, bytes: &[u8]) -> (Head, Answer)
-        ensures { Steps (came bytes.now) self tables.old result tables.new }
+        ensures { Does (by (came bytes.now)) self tables.old result tables.new }
     {
         match wire::read(bytes, tables.list.houses) {
             Ok(read) => self.receive(tables, read.message, read.objects),

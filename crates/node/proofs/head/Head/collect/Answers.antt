@@ -1,4 +1,4 @@
-use Rattle.std.proofs.Common.{rules, [], sym, ap, ◌∙◌}
+use Rattle.std.proofs.Common.{[], sym, ap, ◌∙◌}
 use Rattle.tables.specs.Shown.{numbers}
 use Rattle.objects.specs.Calls.{heap_of}
 use Rattle.lines.specs.Listed.{objects_listed}
@@ -13,14 +13,10 @@ use Rattle.node.proofs.head.Head.collect.Goals as goal
 
 pub returns : goal.returns
 returns c =
-    let h = house_of c.args.self c.args.tables.now in
-    let t = c.args.tables.now.objects.now in
+    let h = house_of c.args.self c.args.objects.now c.args.list.now in
+    let t = c.args.objects.now in
     let from = numbers c.objects-listed.result.now in
     let here = collects (heap_of t) from (ordered t) in
-    record {
-      step =
-          ap (λ x. sends [] (with_heap x h))
-          (ap (λ l. collected l (heap_of t)) (sym (back _ (objects_listed (lines c.args.tables.now.list.now)) c.objects-listed.ensures.names))
-          ∙ c.collect.ensures.lasting.sole (collected from (heap_of t)) here);
-      lent = search rules;
-    }
+    ap (λ x. sends [] (with_heap x h))
+    (ap (λ l. collected l (heap_of t)) (sym (back _ (objects_listed (lines c.args.list.now)) c.objects-listed.ensures.names))
+    ∙ c.collect.ensures.lasting.sole (collected from (heap_of t)) here)

@@ -5,14 +5,14 @@ use Rattle.lines.specs.Stamping.{heard_from}
 use Rattle.objects.specs.Calls.{heap_of}
 use Rattle.node.specs.Executed.{names_in_use}
 use Rattle.node.specs.House.{census}
-use Rattle.node.specs.Shown.{house_of}
+use Rattle.node.specs.Shown.{house_lent}
 use Rattle.node.specs.Step.{used, caught_up, in_census}
 use Rattle.node.proofs.Bytes.{back, found_also}
 use Rattle.node.proofs.head.Head.in_use.Goals as goal
 
 pub returns-then-le : goal.returns-then-le
 returns-then-le c =
-    let h = house_of c.args.self.now c.args.tables.now in
+    let h = house_lent c.args.self.now c.args.tables.now in
     let n = c.args.census.0 in
     let low : ltb (census h) n ≡ false = search rules in
     let same : caught_up n h ≡ h = rw low in
@@ -25,7 +25,7 @@ returns-then-le c =
 
 pub returns : goal.returns
 returns c =
-    let h = house_of c.args.self.now c.args.tables.now in
+    let h = house_lent c.args.self.now c.args.tables.now in
     let n = c.args.census.0 in
     let above : ltb (census h) n ≡ true = search rules in
     let up : caught_up n h ≡ in_census n h = rw above in

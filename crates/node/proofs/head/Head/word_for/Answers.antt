@@ -12,7 +12,7 @@ use Rattle.node.proofs.head.Head.word_for.Goals as goal
 
 pub returns : goal.returns
 returns c =
-    let t = heap_of c.args.tables.now.objects.now in
+    let t = heap_of c.args.objects.now in
     let j = c.args.to.0 in
     let there : leb t.houses j ≡ false = search rules in
     let other : eqb j t.home ≡ false = search rules in
@@ -21,8 +21,5 @@ returns c =
     let size = c.in-Ok.ensures in
     let long = c.in_ok-names.names.ok.0 in
     let count : c.in-Ok.count ≡ length (references_of j t) = size.1 ∙ c.len.ensures ∙ long ∙ sym (length-map (vec_items c.in_ok-names.names) number) ∙ ap length refs in
-    record {
-      step =
-          word_step (house_of c.args.self.now c.args.tables.now) j c.home-from.result c.args.to c.seen_from.result c.in-Ok.count (vec_items c.in_ok-bytes.bytes) there other (ap house c.home-from.ensures) refl c.seen_from.ensures count bytes;
-      lent = search rules;
-    }
+    λ ls.
+    word_step (house_of c.args.self.now c.args.objects.now ls) j c.home-from.result c.args.to c.seen_from.result c.in-Ok.count (vec_items c.in_ok-bytes.bytes) there other (ap house c.home-from.ensures) refl c.seen_from.ensures count bytes
