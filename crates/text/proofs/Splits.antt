@@ -3,7 +3,7 @@ use Rattle.std.proofs.Common.{◌≡◌, ℕ, suc, ◌<◌, ◌≤◌, true, fal
 use Rattle.std.proofs.lemmas.Bool.{cases_Bool}
 use Rattle.std.proofs.lemmas.List.Sums.{prefix_len-le-length}
 use Rattle.std.specs.List.{position_or_len}
-use Rattle.text.specs.Words.{is_space, split, words, ended}
+use Rattle.text.specs.Words.{is_space, split, words, ended, Full, NoneEmpty}
 
 -- how many spaces are in front, and how many bytes come before the first space
 abbrev spaces : List ℕ → ℕ
@@ -81,3 +81,15 @@ module _ (t : List ℕ) where
       ⊎_elim (λ b.
       let f : n ≡ spaces t = search (e, b, rules) in
       begins t n f (omega (arith, ltb-true)) ∙ rw (u, v, q ∙ or_length s, p)) (λ b. absurd (search (e, b, rules))) (cases_Bool (ltb (spaces t) (length t)))
+
+full_ended : (begun : List ℕ) (ws : List (List ℕ)) → Full ws → Full (ended begun ws)
+full_ended [] ws h = h
+full_ended (c ∷ cs) ws h = h
+
+full_split : (begun s : List ℕ) → Full (split begun s)
+unfolding split
+full_split begun [] = full_ended begun [] tt
+full_split begun (c ∷ cs) = ⊎_elim (λ e. rw e (full_ended begun (split [] cs) (full_split [] cs))) (λ e. rw e (full_split (begun ++ (c ∷ [])) cs)) (cases_Bool (is_space c))
+
+pub none_empty : NoneEmpty
+none_empty t = full_split [] t

@@ -1,5 +1,5 @@
 -- A text as words.
-use Rattle.std.specs.Prelude.{ℕ, Bool, true, false, cond, ◌||◌, List, [], ◌∷◌, ◌++◌, ◌==◌}
+use Rattle.std.specs.Prelude.{ℕ, Bool, true, false, cond, ◌||◌, List, [], ◌∷◌, ◌++◌, ◌==◌, ⊤}
 
 -- a space, a tab or a carriage return
 abbrev pub is_space : ℕ → Bool
@@ -21,3 +21,12 @@ words text = split [] text
 abbrev pub none : List (List ℕ) → Bool
 none [] = true
 none (w ∷ ws) = false
+
+abbrev pub Full : List (List ℕ) → Type 0
+Full [] = ⊤
+Full ([] ∷ ws) = ⊥
+Full ((c ∷ cs) ∷ ws) = Full ws
+
+-- no word of a text is empty
+abbrev pub NoneEmpty : Type 0
+NoneEmpty = (text : List ℕ) → Full (words text)

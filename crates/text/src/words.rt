@@ -1,5 +1,5 @@
 ghost use Rattle.std.specs.Prelude.{◌≡◌, not, [], ◌∷◌, position, MatchOption};
-ghost use Rattle.text.specs.Words.{is_space, words, none};
+ghost use Rattle.text.specs.Words.{is_space, words, none, NoneEmpty};
 
 // Words are separated by spaces, tabs and carriage returns.
 fn is_space(c: u8) -> bool
@@ -22,7 +22,8 @@ fn word_end(text: &[u8]) -> Option<usize>
 
 // The first word of a text, and what follows it; none where there is no word.
 pub fn first_word(text: &[u8]) -> Option<(&[u8], &[u8])>
-    ensures { MatchOption result (words text.now ≡ []) (λ x. words text.now ≡ x.0.now ∷ words x.1.now) }
+    ensures first { MatchOption result (words text.now ≡ []) (λ x. words text.now ≡ x.0.now ∷ words x.1.now) }
+    ensures full { NoneEmpty }
 {
     let start = word_start(text)?;
     let rest = &text[start..];
