@@ -18,7 +18,7 @@ impl Answers {
     pub(crate) fn of(&self, house: u8) -> Option<Said>
         ensures { slot result ≡ slot_of house (slots_of self.now) }
     {
-        self.slots.get(house as usize).copied().flatten()
+        self.slots.get(usize::from(house)).copied().flatten()
     }
 
     // With the answer of one house more.
@@ -27,7 +27,7 @@ impl Answers {
     {
         // a `get_mut` in place of the test gets no proof: what it leaves in the array has no name there
         if house.0 < 16 {
-            self.slots[house.0 as usize] = Some(answer);
+            self.slots[usize::from(house.0)] = Some(answer);
         }
         self
     }
