@@ -4,7 +4,7 @@ ghost use Rattle.tables.specs.Met.{Collected};
 ghost use Rattle.tables.specs.Shown.{numbers};
 
 use crate::store::Objects;
-use tables::keep_marked;
+use tables::close_up;
 use wire::Name;
 
 impl Objects {
@@ -14,6 +14,7 @@ impl Objects {
         ensures lasting { Lasting (heap_of self.old) (numbers listed.now) (heap_of self.new) }
     {
         let marks = self.met(listed);
-        keep_marked(&mut self.objects, &marks);
+        let kept = close_up(&mut self.objects, &marks);
+        self.objects.truncate(kept);
     }
 }

@@ -1,14 +1,20 @@
-ghost use Rattle.std.specs.Prelude.{◌≡◌, ◌≤◌, length, vec_len, vec_capacity};
+ghost use Rattle.std.specs.Prelude.{◌≡◌, ◌≤◌, length, take};
 ghost use Rattle.tables.specs.Marks.{kept_by};
 
 use crate::object::Object;
 
-// Keeps the objects with a mark, in their order.
-pub fn keep_marked(objects: &mut Vec<Object>, marks: &[bool])
-    requires { vec_len objects.old ≤ length marks.now }
-    ensures kept { objects.new.items ≡ kept_by marks.now objects.old.items }
-    ensures capacity { vec_capacity objects.new ≡ vec_capacity objects.old }
+// Moves the objects with a mark to the front, in their order; says how many there are.
+pub fn close_up(objects: &mut [Object], marks: &[bool]) -> usize
+    requires { length objects.old ≤ length marks.now }
+    ensures within { result ≤ length objects.old }
+    ensures front { take result objects.new ≡ kept_by marks.now objects.old }
 {
-    let mut marks = marks.iter();
-    objects.retain(|_| marks.next() == Some(&true));
+    let mut end = 0;
+    for (i, marked) in marks[..objects.len()].iter().enumerate() {
+        if *marked {
+            objects.swap(end, i);
+            end += 1;
+        }
+    }
+    end
 }

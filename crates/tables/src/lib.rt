@@ -10,7 +10,7 @@ mod object;
 mod place;
 mod which;
 
-pub use closing::keep_marked;
+pub use closing::close_up;
 pub use gathering::{gather, gather_fields};
 pub use marking::mark;
 pub use object::Object;

@@ -1,5 +1,5 @@
-use Rattle.std.proofs.Common.{◌≡◌, ◌++◌, length, vec_items, sym, refl, ap, ◌∙◌, subst, arith, rules}
-use Rattle.std.proofs.lemmas.List.{length-map}
+use Rattle.std.proofs.Common.{◌≡◌, ◌++◌, length, take, drop, vec_items, sym, refl, ap, ◌∙◌, subst, arith, rules}
+use Rattle.std.proofs.lemmas.List.{length-map, take_at}
 use Rattle.tables.specs.Model.{rising, all_own, names, is_in, fields_well}
 use Rattle.tables.specs.Marks.{kept_by, Marked}
 use Rattle.tables.specs.Met.{Some, Met, Collected}
@@ -17,13 +17,17 @@ invariant_of-self c =
     let s = c.args.self.now in
     let xs = vec_items s.objects in
     let ms = c.met-marks.result in
-    let e : vec_items c.keep_marked.new.objects ≡ kept_by ms xs = c.keep_marked.ensures.kept in
-    let ns : names_in (vec_items c.keep_marked.new.objects) ≡ kept_by ms (names_in xs) = ap names_in e ∙ map_kept name_in ms xs in
+    let ws = c.close_up-kept.new.objects in
+    let r = c.close_up-kept.result in
+    let lw : length ws ≡ s.objects.len = c.close_up-kept.auto.objects ∙ c.deref_mut.ensures.len in
+    let e : vec_items c.truncate.new.self ≡ kept_by ms xs =
+    c.truncate.ensures.items ∙ ap (take r) (take_at ws (drop (length ws) s.objects.items) s.objects.len lw) ∙ c.close_up-kept.ensures.front ∙ ap (kept_by ms) c.deref_mut.ensures.value in
+    let ns : names_in (vec_items c.truncate.new.self) ≡ kept_by ms (names_in xs) = ap names_in e ∙ map_kept name_in ms xs in
     record {
       sixteen = s.sixteen;
       inside = s.inside;
-      few = omega (arith, c.keep_marked.new.objects.ok.0, ap length e, length_kept ms xs, s.objects.ok.0, s.few);
-      room = omega (arith, c.keep_marked.ensures.capacity, s.room);
+      few = omega (arith, c.truncate.new.self.ok.0, ap length e, length_kept ms xs, s.objects.ok.0, s.few);
+      room = omega (arith, c.truncate.ensures.capacity, s.room);
       ordered = ap rising ns ∙ rising_kept ms (names_in xs) s.ordered;
       own = ap (all_own s.home.0 s.made) ns ∙ own_kept s.home.0 s.made ms (names_in xs) s.own;
       few_roots = s.few_roots;
@@ -39,13 +43,17 @@ returns c =
     let xs = vec_items s.objects in
     let ms = c.met-marks.result in
     let from = numbers (vec_items s.roots) ++ numbers c.args.listed.now in
-    let e : vec_items c.keep_marked.new.objects ≡ kept_by ms xs = c.keep_marked.ensures.kept in
+    let ws = c.close_up-kept.new.objects in
+    let r = c.close_up-kept.result in
+    let lw : length ws ≡ s.objects.len = c.close_up-kept.auto.objects ∙ c.deref_mut.ensures.len in
+    let e : vec_items c.truncate.new.self ≡ kept_by ms xs =
+    c.truncate.ensures.items ∙ ap (take r) (take_at ws (drop (length ws) s.objects.items) s.objects.len lw) ∙ c.close_up-kept.ensures.front ∙ ap (kept_by ms) c.deref_mut.ensures.value in
     let marked : Marked xs from ms = c.met-marks.ensures in
     let lm : length ms ≡ 1024 = search rules in
     let ln = length-map xs name_in in
-    let os : objects_of (vec_items c.keep_marked.new.objects) ≡ kept_by ms (objects_of xs) = ap objects_of e ∙ map_kept object_of ms xs in
-    let ns : names (objects_of (vec_items c.keep_marked.new.objects)) ≡ kept_by ms (names_in xs) = names_in_place (vec_items c.keep_marked.new.objects) ∙ ap names_in e ∙ map_kept name_in ms xs in
-    let done : Collected (heap_of s) (numbers c.args.listed.now) (record { home = s.home.0; houses = s.houses; made = s.made; objects = objects_of (vec_items c.keep_marked.new.objects); roots = numbers (vec_items s.roots) }) =
+    let os : objects_of (vec_items c.truncate.new.self) ≡ kept_by ms (objects_of xs) = ap objects_of e ∙ map_kept object_of ms xs in
+    let ns : names (objects_of (vec_items c.truncate.new.self)) ≡ kept_by ms (names_in xs) = names_in_place (vec_items c.truncate.new.self) ∙ ap names_in e ∙ map_kept name_in ms xs in
+    let done : Collected (heap_of s) (numbers c.args.listed.now) (record { home = s.home.0; houses = s.houses; made = s.made; objects = objects_of (vec_items c.truncate.new.self); roots = numbers (vec_items s.roots) }) =
     record {
       home = refl;
       houses = refl;
@@ -61,5 +69,5 @@ returns c =
     } in
     record {
       done = done;
-      lasting = lasting (heap_of s) (numbers c.args.listed.now) (record { home = s.home.0; houses = s.houses; made = s.made; objects = objects_of (vec_items c.keep_marked.new.objects); roots = numbers (vec_items s.roots) }) done (ap rising (names_in_place xs) ∙ s.ordered) (ap rising ns ∙ rising_kept ms (names_in xs) s.ordered);
+      lasting = lasting (heap_of s) (numbers c.args.listed.now) (record { home = s.home.0; houses = s.houses; made = s.made; objects = objects_of (vec_items c.truncate.new.self); roots = numbers (vec_items s.roots) }) done (ap rising (names_in_place xs) ∙ s.ordered) (ap rising ns ∙ rising_kept ms (names_in xs) s.ordered);
     }
