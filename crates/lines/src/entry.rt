@@ -116,6 +116,7 @@ impl Lines<'_> {
     fn takes(&self, object: Name, holder: House) -> bool
         ensures { result ≡ belongs self.now.home.0 self.now.houses object.0 holder.0 }
     {
+        // the last by number: how many houses there are is no house
         object.home() == self.home && holder != self.home && holder.0 < self.houses
     }
 

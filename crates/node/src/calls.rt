@@ -70,6 +70,7 @@ impl Head {
     pub fn ask(self, objects: &Objects, list: &Lines, object: Name, to: House) -> (Head, Answer)
         ensures { Steps result (ask object.0 to.0) (house_of self objects.now list.now) objects.now list.now }
     {
+        // by number: how many houses there are is no house
         let houses = objects.houses();
         if !object.is_well_formed(houses) || to.0 >= houses {
             return (self, Err(Refusal::Malformed.into()));

@@ -106,6 +106,7 @@ impl Head {
         ensures { (ls : Lines) → Gives result (worded to.0 (house_of self.now objects.now ls)) (house_of self.now objects.now ls) (house_of self.now objects.now ls) }
     {
         let from = objects.home();
+        // by number: how many houses there are is no house
         if to.0 >= objects.houses() {
             return Err(Refusal::Malformed.into());
         }

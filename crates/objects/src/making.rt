@@ -12,6 +12,7 @@ impl Objects {
     pub fn new(heap: Global, home: House, houses: u8) -> Result<Objects, Fault>
         ensures { MatchResult result (λ t. heap_of t ≡ new_heap home.0 houses) (λ e. Unmade home.0 houses e) }
     {
+        // by number: how many houses there are is no house
         if houses > 16 || home.0 >= houses {
             return Err(Refusal::Malformed.into());
         }
