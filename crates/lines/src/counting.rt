@@ -58,6 +58,7 @@ impl Lines<'_> {
         let Some(at) = self.find(object, holder) else {
             return false;
         };
+        // a word of a column against a number
         self.censuses[at] == census.0
     }
 

@@ -125,6 +125,7 @@ impl Lines<'_> {
         requires { i < self.now.len }
         ensures { result ≡ is_of object.0 holder.0 (row_of self.now i) }
     {
+        // words of the columns against numbers
         self.objects[i] == object.0 && self.holders[i] == u32::from(holder.0)
     }
 

@@ -81,7 +81,8 @@ fn by_word<'a>(word: &'a [u8], rest: &'a [u8]) -> Option<Play<'a>>
     }
 }
 
-// A line of the program `rehearse`, which says nothing where it is empty or a comment.
+// A line of the program `rehearse`, which says nothing where it is empty or a comment. It is `read_line` but for what the words say:
+// with the reader of the words as a parameter the contract would have to say what that one ensures, and be longer than both.
 pub fn read_play(text: &[u8]) -> Result<Option<Play<'_>>, Refusal>
     ensures { play_said result ≡ play_of (words text.now) }
 {

@@ -40,6 +40,7 @@ impl Name {
         if number >= 268435456 {
             return Err(Refusal::OutOfNumbers);
         }
+        // fits after the test above
         Ok(Name(number as u32 * 16 + u32::from(home.0)))
     }
 
@@ -47,6 +48,7 @@ impl Name {
     pub fn home(self) -> House
         ensures { result ≡ home_of self }
     {
+        // a rest by 16 fits
         House((self.0 % 16) as u8)
     }
 
@@ -65,6 +67,7 @@ impl Name {
     }
 }
 
+// Each number prints as it is. One impl for each type: the gate takes none that a macro of this repository wrote.
 impl fmt::Display for House {
     ghost output = { λ x. Some (decimal x.0) };
 
