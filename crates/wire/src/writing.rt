@@ -101,6 +101,7 @@ fn write_head(message: Message, out: &mut Vec<u8>) -> Result<(), AllocError>
 
 // Appends the bytes of a message, with a word's objects beside it, to `out`.
 // Where memory is wanting nothing is appended; where `out` has room none is asked for.
+#[tactic(auto, using(crate::proofs::Trips::reads_back))]
 pub fn write(message: Message, objects: &[u8], out: &mut Vec<u8>) -> Result<(), AllocError>
     ensures bytes { out.new.items ≡ (if is_ok result then out.old.items ++ encode message objects.now else out.old.items) }
     ensures succeeds { vec_len out.old + (15 + length objects.now) ≤ vec_capacity out.old → is_ok result ≡ true }

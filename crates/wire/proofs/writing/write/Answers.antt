@@ -1,6 +1,5 @@
-use Rattle.std.proofs.Common.{◌≡◌, true, ◌++◌, is_ok, vec_items, ap, ◌∙◌, append_assoc, arith, rules}
+use Rattle.std.proofs.Common.{◌≡◌, true, ◌++◌, is_ok, vec_items, ap, ◌∙◌, append_assoc, arith}
 use Rattle.wire.specs.Format.{head_of}
-use Rattle.wire.proofs.Trips.{reads_back}
 use Rattle.wire.proofs.writing.write.Goals as goal
 
 -- there is room for all once it is reserved, so the objects follow the head
@@ -11,23 +10,12 @@ ok c =
     let written = c.in_ok-write_head.ensures in
     c.extend_from_slice.ensures.succeeds (omega arith)
 
-pub returns : goal.returns
-returns c =
-    record {
-      bytes =
-          rw (ok c)
-          (rw (ok c) at c.extend_from_slice.ensures.items
-          ∙ ap (λ xs. xs ++ c.args.objects.now) (c.in_ok-write_head.ensures.bytes ∙ ap (λ xs. xs ++ head_of c.args.message) c.in_ok-reserve.ensures.items)
-          ∙ append_assoc (vec_items c.args.out.now) (head_of c.args.message) c.args.objects.now);
-      succeeds = λ h. ok c;
-      read_back = reads_back c.args.message c.args.objects.now;
-    }
+pub returns-clause-bytes : goal.returns-clause-bytes
+returns-clause-bytes c =
+    rw (ok c)
+    (rw (ok c) at c.extend_from_slice.ensures.items
+    ∙ ap (λ xs. xs ++ c.args.objects.now) (c.in_ok-write_head.ensures.bytes ∙ ap (λ xs. xs ++ head_of c.args.message) c.in_ok-reserve.ensures.items)
+    ∙ append_assoc (vec_items c.args.out.now) (head_of c.args.message) c.args.objects.now)
 
-pub returns-in_err-reserve : goal.returns-in_err-reserve
-returns-in_err-reserve c = record { bytes = search rules; succeeds = search rules; read_back = reads_back c.args.message c.args.objects.now }
-
-pub returns-in_err-write_head : goal.returns-in_err-write_head
-returns-in_err-write_head c = record { bytes = search rules; succeeds = search rules; read_back = reads_back c.args.message c.args.objects.now }
-
-pub returns-in_default : goal.returns-in_default
-returns-in_default c = record { bytes = search rules; succeeds = search rules; read_back = reads_back c.args.message c.args.objects.now }
+pub returns-clause-succeeds : goal.returns-clause-succeeds
+returns-clause-succeeds c = λ h. ok c
