@@ -4,4 +4,4 @@ use Rattle.rounds.specs.Slots.{slot}
 use Rattle.rounds.proofs.desk.Answers.with.Goals as goal
 
 pub returns-then-house-lt16 : goal.returns-then-house-lt16
-returns-then-house-lt16 c = map-set slot c.args.self.slots c.args.house.0 (Some c.args.answer)
+returns-then-house-lt16 c = rw c.from.ensures (map-set slot c.args.self.slots c.args.house.0 (Some c.args.answer))
