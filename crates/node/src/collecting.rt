@@ -5,7 +5,8 @@ ghost use Rattle.node.specs.Executed.{names_in_use};
 ghost use Rattle.node.specs.Step.{used, caught_up, polled, worded, bytes_of, collect, word, join, tell};
 ghost use Rattle.lines.specs.declared.table.Lines.{Lines};
 ghost use Rattle.lines.specs.Lists.{Lent};
-ghost use Rattle.node.specs.Shown.{by, house_lent, house_of, Does, Gives, Steps};
+ghost use Rattle.node.specs.Tied.{Tied};
+ghost use Rattle.node.specs.Shown.{house_of, Does, Gives, Steps};
 
 use crate::head::Head;
 use crate::lent::Tables;
@@ -40,33 +41,37 @@ impl Head {
     }
 
     // The far references that are in use once a census is joined, if it is above the own; nothing is joined yet.
-    fn in_use(&self, tables: &Tables, census: Census) -> Result<Vec<Name>, AllocError>
-        ensures { IfOk result (λ v. numbers v.items ≡ used (caught_up census.0 (house_lent self.now tables.now))) }
+    fn in_use(
+        &self,
+        objects: &Objects,
+        list: &Lines,
+        census: Census,
+    ) -> Result<Vec<Name>, AllocError>
+        ensures { IfOk result (λ v. numbers v.items ≡ used (caught_up census.0 (house_of self.now objects.now list.now))) }
     {
         let own = self.standing.census();
         let mut names = [Name(0); 2048];
         if census <= own {
-            let listed = tables.list.objects_in(own, &mut names);
-            return met_from(self.heap, &tables.objects, listed);
+            return met_from(self.heap, objects, list.objects_in(own, &mut names));
         }
-        let listed = tables
-            .list
-            .objects_joining(census, &self.stamps, &mut names);
-        met_from(self.heap, &tables.objects, listed)
+        let listed = list.objects_joining(census, &self.stamps, &mut names);
+        met_from(self.heap, objects, listed)
     }
 
     // All that is in use of other houses is told to them, until they answer.
-    pub fn tell(mut self, tables: &Tables) -> (Head, Answer)
-        ensures { Does (by tell) self tables.now result tables.now }
+    pub fn tell(mut self, objects: &Objects, list: &Lines) -> (Head, Answer)
+        requires { Tied objects.now list.now }
+        ensures { Steps result tell (house_of self objects.now list.now) objects.now list.now }
     {
         let census = self.standing.census();
-        let Ok(in_use) = self.in_use(tables, census) else {
+        let Ok(in_use) = self.in_use(objects, list, census) else {
             return (self, Err(Fault::NoMemory));
         };
         let (standing, due) = self.standing.tell(&in_use);
         self.standing = standing;
+        // with `map` and `map_err` it gets no proof
         match due {
-            Ok(names) => (self, Ok(Sent::Tellings(census, tables.list.home, names))),
+            Ok(names) => (self, Ok(Sent::Tellings(census, list.home, names))),
             Err(_) => (self, Err(Fault::NoMemory)),
         }
     }
@@ -83,7 +88,7 @@ impl Head {
         if census < self.standing.census() {
             return (self, Err(Refusal::OtherCensus.into()));
         }
-        let Ok(in_use) = self.in_use(tables, census) else {
+        let Ok(in_use) = self.in_use(tables.objects, tables.list, census) else {
             return (self, Err(Fault::NoMemory));
         };
         let mut head = self.catch_up(tables.list, census);

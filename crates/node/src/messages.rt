@@ -87,6 +87,7 @@ impl Head {
         if stamp <= self.stamps.seen_from(from) {
             return (self, Err(Refusal::OldStamp.into()));
         }
+        // no `?`: the head is handed back, and its part in the census cannot be moved out of a `&mut`
         if let Err(refusal) = tables.objects.take(object) {
             return (self, Err(refusal.into()));
         }
