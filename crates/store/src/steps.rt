@@ -23,8 +23,6 @@ impl Store {
         let objects = Objects::new(heap, home, houses)?;
         Ok(Store {
             heap,
-            home,
-            houses,
             head: Head::new(heap),
             objects,
             held: [0; 2048],
@@ -61,8 +59,8 @@ impl Store {
             censuses: &mut self.censuses,
             len: self.len,
             room: 2048,
-            home: self.home,
-            houses: self.houses,
+            home: self.objects.home(),
+            houses: self.objects.houses(),
         };
         let mut tables = Tables {
             objects: &mut self.objects,

@@ -5,14 +5,11 @@ ghost use Rattle.objects.specs.Calls.{heap_of};
 use node::Head;
 use objects::Objects;
 use std::alloc::Global;
-use wire::House;
 
 // A house with all its tables. Its list lies in four columns, of which the first `len` places are taken.
 #[derive(Drop)]
 pub struct Store {
     pub(crate) heap: Global,
-    pub(crate) home: House,
-    pub(crate) houses: u8,
     pub(crate) head: Head,
     pub(crate) objects: Objects,
     pub(crate) held: [u32; 2048],
@@ -21,10 +18,7 @@ pub struct Store {
     pub(crate) censuses: [u32; 2048],
     pub(crate) len: usize,
     ghost within: { len ≤ 2048 },
-    ghost sixteen: { houses ≤ 16 },
     ghost alone: { Alone held holders len },
-    ghost own: { Own home.0 held len },
-    ghost far: { Far home.0 houses holders len },
-    ghost here: { (heap_of objects).home ≡ home.0 },
-    ghost all: { (heap_of objects).houses ≡ houses },
+    ghost own: { Own (heap_of objects).home held len },
+    ghost far: { Far (heap_of objects).home (heap_of objects).houses holders len },
 }
