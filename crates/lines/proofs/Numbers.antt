@@ -14,20 +14,6 @@ use Rattle.wire.specs.Format.{numbers, rising}
 use Rattle.lines.specs.Listed.{is_in}
 use Rattle.lines.specs.Words.{Ascending}
 
--- the numbers are those of the chunks of four bytes
-pub chunk_numbers : (xs : List ℕ) → map (from_be_bytes w32) (first_chunks 4 (length xs / 4) xs) ≡ numbers xs
-unfolding numbers
-chunk_numbers [] = refl
-chunk_numbers (a ∷ []) = refl
-chunk_numbers (a ∷ b ∷ []) = refl
-chunk_numbers (a ∷ b ∷ c ∷ []) = refl
-chunk_numbers (a ∷ b ∷ c ∷ d ∷ rest) =
-    let z : length (a ∷ b ∷ c ∷ d ∷ rest) ≡ 4 + length rest = omega arith in
-    let p : 0 < 4 = omega arith in
-    let q : (4 + length rest) / 4 ≡ suc (length rest / 4) = add-div_left (length rest) p ∙ omega arith in
-    ap (λ n. map (from_be_bytes w32) (first_chunks 4 n (a ∷ b ∷ c ∷ d ∷ rest))) (ap (λ n. n / 4) z ∙ q)
-    ∙ ap (λ r. from_be_bytes w32 (a ∷ b ∷ c ∷ d ∷ []) ∷ r) (chunk_numbers rest) ∙ ap (λ x. x ∷ numbers rest) refl
-
 rising_above : (to low : ℕ) (xs : List ℕ) → rising to low xs ≡ true → (k : ℕ) → k < length xs → low < get_or xs k 0
 unfolding rising
 rising_above to low [] e k h = absurd (omega arith)

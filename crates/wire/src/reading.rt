@@ -213,7 +213,7 @@ impl<'a> Reader<'a> {
 fn part(bytes: &[u8], at: usize) -> &[u8]
     ensures { result.now ≡ drop at bytes.now }
 {
-    if at < bytes.len() { &bytes[at..] } else { &[] }
+    bytes.get(at..).unwrap_or(&[])
 }
 
 // Whether an object of house `to` comes after one with the name `low`.
@@ -228,14 +228,13 @@ fn rises(objects: &[u8], to: u8) -> bool
     ensures { result ≡ rising to 15 (numbers objects.now) }
 {
     let mut low = 15;
-    let mut rest = objects;
-    while let [a, b, c, d, more @ ..] = rest {
-        let object = u32::from_be_bytes([*a, *b, *c, *d]);
+    let (numbers, _) = objects.as_chunks::<4>();
+    for number in numbers {
+        let object = u32::from_be_bytes(*number);
         if !is_next(low, object, to) {
             return false;
         }
         low = object;
-        rest = more;
     }
     true
 }

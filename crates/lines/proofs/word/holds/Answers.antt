@@ -4,7 +4,8 @@ use Rattle.std.specs.Int.{from_be_bytes}
 use Rattle.wire.specs.Format.{numbers}
 use Rattle.lines.specs.Words.{Ascending}
 use Rattle.lines.specs.Listed.{is_in}
-use Rattle.lines.proofs.Numbers.{chunk_numbers, searched}
+use Rattle.wire.proofs.Parts.{chunk_numbers}
+use Rattle.lines.proofs.Numbers.{searched}
 use Rattle.lines.proofs.word.holds.Goals as goal
 
 pub returns : goal.returns

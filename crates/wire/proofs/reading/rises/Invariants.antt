@@ -1,9 +1,7 @@
-use Rattle.std.proofs.Common.{◌≡◌, length}
+use Rattle.std.proofs.Common.{◌≡◌, drop, map, w32}
+use Rattle.std.specs.Int.{from_be_bytes}
 use Rattle.wire.specs.Format.{rising, numbers}
 use Rattle.wire.proofs.reading.rises.Given as goal
 
-abbrev pub invariant-loop-rest : goal.invariant-loop-rest
-invariant-loop-rest l = rising l.to 15 (numbers l.objects) ≡ rising l.to l.low (numbers l.rest)
-
-abbrev pub decreases-loop-rest : goal.decreases-loop-rest
-decreases-loop-rest l = length l.rest
+abbrev pub invariant-loop-number : goal.invariant-loop-number
+invariant-loop-number l = rising l.to 15 (numbers l.objects) ≡ rising l.to l.low (map (from_be_bytes w32) (drop l.number-index l.numbers))
