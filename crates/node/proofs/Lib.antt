@@ -1,4 +1,3 @@
-pub mod Reached
 pub mod Bytes
 pub mod Words
 pub mod Fairness

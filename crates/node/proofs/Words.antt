@@ -2,10 +2,10 @@
 use Rattle.std.proofs.Common.{◌≡◌, ℕ, false, eqb, leb, List, [], ◌∷◌, length, Ok}
 use Rattle.wire.specs.declared.names.House as wire
 use Rattle.wire.specs.Names.{house}
+use Rattle.objects.specs.Executed.{references_of}
 use Rattle.lines.specs.Stamping.{stamp, seen_from}
 use Rattle.wire.specs.declared.names.Stamp.{Stamp}
 use Rattle.wire.specs.declared.message.Message.TheVariants.{Word}
-use Rattle.node.specs.Executed.{references_of}
 use Rattle.node.specs.House.{House, self, houses}
 use Rattle.node.specs.Step.{worded, bytes_of}
 

@@ -10,7 +10,7 @@ use Rattle.tables.proofs.Well.{well_in, well_fields, well_append, well_everywher
 use Rattle.tables.proofs.Reach.{is_in_append}
 
 -- what is in some of a list is in the list
-some_in : {ys xs : List Object} → Some ys xs → (o : ℕ) → present o ys ≡ true → present o xs ≡ true
+pub some_in : {ys xs : List Object} → Some ys xs → (o : ℕ) → present o ys ≡ true → present o xs ≡ true
 some_in end o e = e
 some_in (kept {x} {xs} {ys} s) o e = ⊎_elim
     (λ t. or_left (eqb x.name o) (is_in o (names ys)) t)
@@ -22,7 +22,7 @@ out_first : (o : ℕ) (x : Object) (xs : List Object) → rising (names (x ∷ x
 out_first o x xs r e = ne_eqb x.name o (λ q. both_ways (is_in o (names xs)) (above_out o x.name (names xs) (and_parts (above x.name (names xs)) (rising (names xs)) r).0 (omega arith)) e)
 
 -- and has the same fields
-some_fields : {ys xs : List Object} → Some ys xs → rising (names xs) ≡ true → (o : ℕ) → present o ys ≡ true → fields_of o ys ≡ fields_of o xs
+pub some_fields : {ys xs : List Object} → Some ys xs → rising (names xs) ≡ true → (o : ℕ) → present o ys ≡ true → fields_of o ys ≡ fields_of o xs
 some_fields end r o e = refl
 some_fields (kept {x} {xs} {ys} s) r o e = ⊎_elim
     (λ t. cond-true (eqb x.name o) x.fields (fields_of o xs) t ∙ sym (cond-true (eqb x.name o) x.fields (fields_of o ys) t))
@@ -35,7 +35,7 @@ some_fields (left {x} {xs} {ys} s) r o e =
     some_fields s (and_parts (above x.name (names ys)) (rising (names ys)) r).1 o e
     ∙ sym (cond-false (eqb x.name o) x.fields (fields_of o ys) (out_first o x ys r (some_in s o e)))
 
-some_refl : (xs : List Object) → Some xs xs
+pub some_refl : (xs : List Object) → Some xs xs
 some_refl [] = end
 some_refl (x ∷ xs) = kept (some_refl xs)
 

@@ -3,3 +3,4 @@ pub mod Numbering
 pub mod Kept
 pub mod Sought
 pub mod Laws
+pub mod Reached

@@ -1,7 +1,7 @@
 -- Every case comes out as it is written: the checker plays it.
 use Rattle.std.proofs.Common.{[], ◌∷◌, refl, ap}
 use Rattle.wire.specs.Format.{numbers, rising}
-use Rattle.rules.specs.Executed.{picked, spread, kept_in, sorted_by}
+use Rattle.objects.specs.Executed.{picked, spread, kept_in, sorted_by}
 use Rattle.lines.specs.Listed.{is_in, listed, listed_in, entered, marked, joined, heard_of, swept, objects_listed, objects_in}
 use Rattle.play.specs.Play.{play}
 use Rattle.play.specs.Cases.{sends, refused, shows, all_shown, answer, answered, AllCases, GoesOn}

@@ -12,14 +12,14 @@ use Rattle.tables.specs.Model.{Heap, is_in}
 use Rattle.tables.specs.Met.{everywhere}
 use Rattle.tables.specs.Met as tables
 use Rattle.tables.proofs.Reach.{is_in_append}
+use Rattle.objects.specs.Executed.{collected, references_of}
+use Rattle.objects.proofs.Reached.{collects, refers}
 use Rattle.lines.specs.Listed.{objects_listed, heard_of, swept}
 use Rattle.lines.specs.Stamping.{stamp, seen_from, heard_from, with_heard}
 use Rattle.lines.specs.declared.stamps.Stamps.{Stamps}
 use Rattle.rounds.specs.Model as rounds
 use Rattle.rules.specs.House as rules
-use Rattle.rules.specs.Executed.{collected, references_of}
 use Rattle.rules.specs.Step.{sends, in_census, hears, heard_stamp, sweeps, bytes_of, step, collect, word, join}
-use Rattle.rules.proofs.Reached.{collects, refers}
 use Rattle.promise.specs.Net.{Word, Sweep, Cleans, Collected, with, with_objects, with_list}
 use Rattle.promise.specs.Net as net
 use Rattle.promise.specs.Rounds.{Turn, Slot, idle}

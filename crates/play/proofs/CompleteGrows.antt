@@ -2,9 +2,9 @@
 use Rattle.std.proofs.Common.{◌≡◌, ℕ, ◌+◌, ◌≤◌, Bool, true, false, cond, not, ◌&&◌, ◌||◌, eqb, List, [], ◌∷◌, sym, refl, ap, ◌∙◌, ⊎_elim, arith}
 use Rattle.std.proofs.lemmas.Bool.{and_parts, or_cases, or_left, cond-true, cond-false, eqb-true, eq-eqb, both_ways, cases_Bool}
 use Rattle.tables.specs.Model.{Heap}
+use Rattle.objects.specs.Executed.{names_in_use}
 use Rattle.lines.specs.Listed.{Listed, line, is_of, listed, listed_in, marked, objects_in}
 use Rattle.lines.proofs.Marks.{listed_in_none}
-use Rattle.rules.specs.Executed.{names_in_use}
 use Rattle.rules.specs.House.{House, census}
 use Rattle.rules.specs.Step.{used, newly, marks}
 use Rattle.rules.specs.Sound.{Single, Sound}

@@ -3,13 +3,13 @@ use Rattle.std.proofs.Common.{◌≡◌, ℕ, ◌<◌, true, false, eqb, ◌⊎�
 use Rattle.std.proofs.lemmas.Bool.{or_cases, or_left, or_right, cond-true, eqb-true, eq-eqb, both_ways, cases_Bool}
 use Rattle.wire.specs.declared.message.Message.TheVariants as message
 use Rattle.wire.specs.Names.{home, name, house}
+use Rattle.objects.specs.Executed.{names_in_use}
 use Rattle.lines.specs.Listed.{Listed, objects_in}
 use Rattle.tables.specs.Model.{is_in}
 use Rattle.census.specs.Model.{Part, names, answered_in, settled, with_told, hearing, telling, due_of, calm}
 use Rattle.census.specs.Laws.{IsTold, IsAnswered}
 use Rattle.census.proofs.Laws.{laws}
 use Rattle.census.proofs.Settling.{names_settled}
-use Rattle.rules.specs.Executed.{names_in_use}
 use Rattle.rules.specs.House.{House, self, houses, census, with_part}
 use Rattle.rules.specs.Step.{Letter, letter, used}
 use Rattle.rules.specs.Sound.{Sound}

@@ -8,6 +8,7 @@ use Rattle.wire.specs.declared.message.Message.TheVariants as message
 use Rattle.wire.specs.declared.refusal.Refusal.TheVariants.{Misdelivered, OtherCensus}
 use Rattle.tables.specs.Model.{is_in}
 use Rattle.tables.specs.Met as tables
+use Rattle.objects.proofs.Reached.{in_use}
 use Rattle.lines.specs.Listed.{listed, listed_in, marked, objects_in}
 use Rattle.census.specs.Model.{Told, names, answered_in, says_calm}
 use Rattle.census.specs.Model as census
@@ -15,7 +16,6 @@ use Rattle.census.specs.Laws.{Calm}
 use Rattle.census.proofs.Laws.{laws}
 use Rattle.rules.specs.House as rules
 use Rattle.rules.specs.Step.{Letter, sends, letter, told, marks, polled, replies_to, replies, used}
-use Rattle.rules.proofs.Reached.{in_use}
 use Rattle.promise.specs.Net.{Mark, with, with_list}
 use Rattle.promise.specs.Rounds.{Turn, AlikePart, Answer, Round, Reply, Fine}
 use Rattle.promise.specs.Rounds as promise

@@ -5,10 +5,10 @@ use mathlib.Core.List.{Memᴰ}
 use Rattle.wire.specs.declared.call.Call.TheVariants as call
 use Rattle.tables.specs.Model.{Heap, present}
 use Rattle.tables.specs.Met as tables
+use Rattle.objects.specs.Executed.{collected}
+use Rattle.objects.proofs.Reached as reached
 use Rattle.lines.specs.Listed.{Listed, objects_listed}
 use Rattle.rules.specs.House as rules
-use Rattle.rules.specs.Executed.{collected}
-use Rattle.rules.proofs.Reached as reached
 use Rattle.promise.specs.Promise as relation
 use Rattle.promise.proofs.Base.{set_other, last, none_below, mem→is_in}
 use Rattle.promise.proofs.Lines.{objects_listed→mem}

@@ -12,11 +12,11 @@ use Rattle.wire.specs.declared.refusal.Refusal.TheVariants.{Malformed, Misdelive
 use Rattle.wire.specs.Names.{house}
 use Rattle.wire.specs.Format.{decode, numbers, part_of}
 use Rattle.wire.specs.Laws.{ReadAs}
+use Rattle.objects.specs.Executed.{references_of}
 use Rattle.lines.specs.Listed.{heard_of}
 use Rattle.lines.specs.Stamping.{stamp, seen_from, heard_from, with_heard}
 use Rattle.lines.specs.declared.stamps.Stamps.{Stamps}
 use Rattle.rules.specs.House as rules
-use Rattle.rules.specs.Executed.{references_of}
 use Rattle.rules.specs.Step.{Letter, Outcome, word, came, step, sends, refused, read_as, heard_stamp}
 use Rattle.rules.specs.Step as rule
 use Rattle.rules.proofs.Sound.{sent_read}

@@ -6,6 +6,7 @@ use lib.Dec.{eqb_refl}
 use Rattle.std.proofs.lemmas.Bool.{or_cases, or_left, or_right, and_parts, cases_Bool, both_ways}
 use Rattle.wire.specs.Names.{home}
 use Rattle.tables.specs.Model.{is_in}
+use Rattle.objects.proofs.Reached.{in_use}
 use Rattle.lines.specs.Listed.{objects_in}
 use Rattle.census.specs.Model.{names, answered_in, due_of}
 use Rattle.census.specs.Model as census
@@ -13,7 +14,6 @@ use Rattle.census.specs.Laws.{Due}
 use Rattle.census.proofs.Laws.{laws}
 use Rattle.rules.specs.House as rules
 use Rattle.rules.specs.Step.{telling_of, used, step, tell}
-use Rattle.rules.proofs.Reached.{in_use}
 use Rattle.promise.specs.House.{Used}
 use Rattle.promise.specs.Net.{Msg, Mark}
 use Rattle.promise.specs.Rounds.{Part, Turn, AlikePart, Note, Runs, telling, census_of}

@@ -1,4 +1,3 @@
-pub mod Reached
 pub mod Fairness
 pub mod Twice
 pub mod SoundHeaps

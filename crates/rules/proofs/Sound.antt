@@ -14,17 +14,17 @@ use Rattle.wire.specs.Laws.{Bytes, Named, Valid, ReadAs}
 use Rattle.wire.proofs.Trips.{reads_back}
 use Rattle.tables.specs.Model.{Heap, is_in, present, fields_of}
 use Rattle.objects.specs.Calls.{make_answer, made_new, link_answer, linked_to, unlink_answer, unlinked_from, load_answer, rooted, drop_answer, unrooted, keep_answer, take_answer, root_answer, after_take, malformed, held, roomy, unless_refused}
+use Rattle.objects.specs.Executed.{collected, references_of}
+use Rattle.objects.proofs.Reached.{refers}
 use Rattle.lines.specs.Listed.{Listed, line, fits, belongs, entered, marked, joined, heard_of, swept, objects_listed, objects_in}
 use Rattle.lines.specs.Stamping.{stamp, given_to, seen_from, heard_from, with_given, with_seen, next_for}
 use Rattle.lines.specs.declared.stamps.Stamps.{Stamps}
 use Rattle.census.specs.Model.{Part, asks, stirring, hearing, settled, with_told, telling, due_of, polling, replied, says_calm}
 use Rattle.rounds.specs.Model.{Desk, ready, beginning, begun, noted, completes}
-use Rattle.rules.specs.Executed.{collected, references_of}
 use Rattle.rules.specs.House.{House, self, houses, census, empty, with_heap, with_list, with_stamps, with_part, with_desk}
 use Rattle.rules.specs.Step.{Letter, Outcome, Event, make, link, unlink, load, drop, ask, collect, word, join, tell, round, came, refused, refuse_if, sends, quietly, letter, used, bytes_of, in_census, caught_up, telling_of, authorised, stamped, handed, took_it, heard_stamp, newly, marks, replies, replies_to, begins, receives, read_as, step}
 use Rattle.rules.specs.Sound.{SoundHeap, SoundLine, SoundList, SoundStamps, SoundPart, SoundDesk, stale, Sound, Typed, KeepsSound}
 use Rattle.rules.proofs.Fairness.{by_cases, up_home, up_census}
-use Rattle.rules.proofs.Reached.{refers}
 use Rattle.rules.proofs.SoundHeaps.{heap_new, heap_made, heap_linked, heap_unlinked, heap_rooted, heap_unrooted, heap_collected, field_named, used_named, references_fit, references_named}
 use Rattle.rules.proofs.SoundLists.{all_mem, list_heard, list_swept, list_joined, list_marked, list_entered, list_named, stale_heard, stale_swept, stale_few, stale_marked, stale_entered}
 use Rattle.rules.proofs.SoundParts.{stamps_new, stamps_given, stamps_seen, stamps_heard, part_fresh, part_counting, part_stirring, part_replied, part_heard, part_tells, due_named, desk_idle, desk_begun, desk_noted}

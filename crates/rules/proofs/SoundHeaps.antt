@@ -12,9 +12,9 @@ use Rattle.tables.proofs.Places.{added_in, rising_added, length_added, rising_wi
 use Rattle.tables.proofs.Reach.{is_in_append}
 use Rattle.tables.proofs.Gathers.{added_why}
 use Rattle.objects.specs.Calls.{new_heap, made_new, linked_to, unlinked_from, rooted, unrooted, with_objects, with_roots}
-use Rattle.rules.specs.Executed.{collected, names_in_use, sorted_by, references_of}
+use Rattle.objects.specs.Executed.{collected, names_in_use, sorted_by, references_of}
+use Rattle.objects.proofs.Reached.{collects, in_use, refers}
 use Rattle.rules.specs.Sound.{Own, Small, SoundHeap}
-use Rattle.rules.proofs.Reached.{collects, in_use, refers}
 
 -- a name in one of two lists
 pub in_either : (o : ℕ) (xs ys : List ℕ) → is_in o (xs ++ ys) ≡ true → (is_in o xs ≡ true) ⊎ (is_in o ys ≡ true)

@@ -1,5 +1,4 @@
 pub mod House
-pub mod Executed
 pub mod Step
 pub mod Laws
 pub mod Sound

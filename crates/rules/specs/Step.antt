@@ -10,7 +10,7 @@ use Rattle.wire.specs.Names.{home, house, name}
 use Rattle.wire.specs.Format.{bytes4, decode, numbers, part_of}
 use Rattle.tables.specs.Model.{Heap, is_in, present}
 use Rattle.objects.specs.Calls.{make_answer, after_make, link_answer, after_link, unlink_answer, after_unlink, load_answer, after_load, drop_answer, after_drop, keep_answer, after_keep, take_answer, after_take, malformed}
-use Rattle.rules.specs.Executed.{collected, names_in_use, references_of}
+use Rattle.objects.specs.Executed.{collected, names_in_use, references_of}
 use Rattle.lines.specs.Listed.{Listed, listed, listed_in, entered, fits, belongs, marked, joined, heard_of, swept, objects_listed, objects_in}
 use Rattle.lines.specs.Stamping.{stamp, given_to, seen_from, heard_from, with_given, with_seen, with_heard, next_for}
 use Rattle.census.specs.Model.{asks, fresh, counting, stirring, hearing, telling, due_of, replying, replied}

@@ -1,9 +1,9 @@
 use Rattle.tables.specs.Met.{FarInUse}
 use Rattle.tables.specs.Shown.{numbers}
 use Rattle.objects.specs.Calls.{heap_of}
-use Rattle.node.specs.Executed.{names_in_use}
+use Rattle.objects.specs.Executed.{names_in_use}
+use Rattle.objects.proofs.Reached.{in_use, ordered}
 use Rattle.node.proofs.Bytes.{found}
-use Rattle.node.proofs.Reached.{in_use, ordered}
 use Rattle.node.proofs.collecting.met_from.Goals as goal
 
 pub returns : goal.returns

@@ -1,14 +1,14 @@
 use Rattle.std.proofs.Common.{[], sym, ap, ◌∙◌}
 use Rattle.tables.specs.Shown.{numbers}
 use Rattle.objects.specs.Calls.{heap_of}
+use Rattle.objects.specs.Executed.{collected}
+use Rattle.objects.proofs.Reached.{collects, ordered}
 use Rattle.lines.specs.Listed.{objects_listed}
 use Rattle.lines.specs.Lists.{lines}
-use Rattle.node.specs.Executed.{collected}
 use Rattle.node.specs.House.{with_heap}
 use Rattle.node.specs.Shown.{house_of}
 use Rattle.node.specs.Step.{sends}
 use Rattle.node.proofs.Bytes.{back}
-use Rattle.node.proofs.Reached.{collects, ordered}
 use Rattle.node.proofs.head.Head.collect.Goals as goal
 
 pub returns : goal.returns

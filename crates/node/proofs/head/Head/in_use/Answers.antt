@@ -3,7 +3,7 @@ use Rattle.lines.specs.Listed.{objects_in, joined}
 use Rattle.lines.specs.Lists.{lines}
 use Rattle.lines.specs.Stamping.{heard_from}
 use Rattle.objects.specs.Calls.{heap_of}
-use Rattle.node.specs.Executed.{names_in_use}
+use Rattle.objects.specs.Executed.{names_in_use}
 use Rattle.node.specs.House.{census}
 use Rattle.node.specs.Shown.{house_of}
 use Rattle.node.specs.Step.{used, caught_up, in_census}

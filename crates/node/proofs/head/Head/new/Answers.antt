@@ -1,8 +1,8 @@
 use Rattle.std.proofs.Common.{rules}
+use Rattle.objects.proofs.Reached.{collects}
 use Rattle.lines.specs.Listed.{objects_listed}
 use Rattle.node.specs.Laws.{Lawful}
 use Rattle.node.proofs.Fairness.{always_fair}
-use Rattle.node.proofs.Reached.{collects}
 use Rattle.node.proofs.Twice.{twice_is_once}
 use Rattle.node.proofs.head.Head.new.Goals as goal
 

@@ -3,11 +3,11 @@ use Rattle.std.proofs.lemmas.List.{length-map}
 use Rattle.wire.specs.Names.{house}
 use Rattle.tables.specs.Shown.{number, numbers}
 use Rattle.objects.specs.Calls.{heap_of}
-use Rattle.node.specs.Executed.{references_of}
+use Rattle.objects.specs.Executed.{references_of}
+use Rattle.objects.proofs.Reached.{refers}
 use Rattle.node.specs.Shown.{house_of}
 use Rattle.node.specs.Step.{bytes_of}
 use Rattle.node.proofs.Words.{word_step}
-use Rattle.node.proofs.Reached.{refers}
 use Rattle.node.proofs.head.Head.word_for.Goals as goal
 
 pub returns : goal.returns

@@ -1,44 +1,17 @@
 -- What is computed as met is what is met, and so for collection and for the references in use.
-use Rattle.std.proofs.Common.{◌≡◌, ℕ, zero, suc, ◌≤◌, Bool, true, false, not, eqb, ◌⊎◌, List, [], ◌∷◌, ◌++◌, length, sym, refl, ap, ◌∙◌, subst, inl, inr, ⊎_elim, arith}
-use Rattle.std.proofs.lemmas.Bool.{cases_Bool, or_cases, or_left, or_right, or_from, cond-true, cond-false, cond_both, and_parts, both_ways, not-true, eqb-true, eqb-false, eq-eqb, ne_eqb}
+use Rattle.std.proofs.Common.{◌≡◌, ℕ, zero, suc, ◌≤◌, Bool, true, false, not, eqb, ◌⊎◌, List, [], ◌∷◌, ◌++◌, length, vec_items, sym, refl, ap, ◌∙◌, subst, inl, inr, ⊎_elim, arith}
+use Rattle.std.proofs.lemmas.Bool.{cases_Bool, or_cases, or_left, or_right, or_from, cond-true, cond-false, cond_both, both_ways, not-true, eqb-true, eqb-false, eq-eqb, ne_eqb}
 use Rattle.std.specs.declared.option.Option.TheVariants as option
 use Rattle.wire.specs.Names.{home}
-use Rattle.tables.specs.Model.{Object, Heap, is_in, present, fields_of, names, rising, above, added}
+use Rattle.tables.specs.Model.{Object, Heap, is_in, present, fields_of, names, rising, added}
 use Rattle.tables.specs.Met.{Met, start, field, Collected, Lists, FarInUse, Refers, Some, end, kept, left, everywhere}
-use Rattle.tables.proofs.Places.{above_out, rising_added}
+use Rattle.tables.proofs.Places.{rising_added, names_in_place}
 use Rattle.tables.proofs.Reach.{is_in_append}
 use Rattle.tables.proofs.Gathers.{added_why, added_new, added_old}
-use Rattle.rules.specs.Executed.{behind, picked, spread, met_from, kept_in, collected, sorted_by, names_in_use, references_of}
-
--- what is in some of a list is in the list
-some_in : {ys xs : List Object} → Some ys xs → (o : ℕ) → present o ys ≡ true → present o xs ≡ true
-some_in end o e = e
-some_in (kept {x} {xs} {ys} s) o e = ⊎_elim
-    (λ t. or_left (eqb x.name o) (is_in o (names ys)) t)
-    (λ t. or_right (eqb x.name o) (is_in o (names ys)) (some_in s o t))
-    (or_cases (eqb x.name o) (is_in o (names xs)) e)
-some_in (left {x} {xs} {ys} s) o e = or_right (eqb x.name o) (is_in o (names ys)) (some_in s o e)
-
-out_first : (o : ℕ) (x : Object) (xs : List Object) → rising (names (x ∷ xs)) ≡ true → present o xs ≡ true → eqb x.name o ≡ false
-out_first o x xs r e = ne_eqb x.name o (λ q. both_ways (is_in o (names xs)) (above_out o x.name (names xs) (and_parts (above x.name (names xs)) (rising (names xs)) r).0 (omega arith)) e)
-
--- and has the same fields
-some_fields : {ys xs : List Object} → Some ys xs → rising (names xs) ≡ true → (o : ℕ) → present o ys ≡ true → fields_of o ys ≡ fields_of o xs
-some_fields end r o e = refl
-some_fields (kept {x} {xs} {ys} s) r o e = ⊎_elim
-    (λ t. cond-true (eqb x.name o) x.fields (fields_of o xs) t ∙ sym (cond-true (eqb x.name o) x.fields (fields_of o ys) t))
-    (λ t. let f : eqb x.name o ≡ false = out_first o x ys r (some_in s o t) in
-    cond-false (eqb x.name o) x.fields (fields_of o xs) f
-    ∙ some_fields s (and_parts (above x.name (names ys)) (rising (names ys)) r).1 o t
-    ∙ sym (cond-false (eqb x.name o) x.fields (fields_of o ys) f))
-    (or_cases (eqb x.name o) (is_in o (names xs)) e)
-some_fields (left {x} {xs} {ys} s) r o e =
-    some_fields s (and_parts (above x.name (names ys)) (rising (names ys)) r).1 o e
-    ∙ sym (cond-false (eqb x.name o) x.fields (fields_of o ys) (out_first o x ys r (some_in s o e)))
-
-some_refl : (xs : List Object) → Some xs xs
-some_refl [] = end
-some_refl (x ∷ xs) = kept (some_refl xs)
+use Rattle.objects.specs.declared.store.Objects.{Objects}
+use Rattle.objects.specs.Calls.{heap_of}
+use Rattle.objects.specs.Executed.{behind, picked, spread, met_from, kept_in, collected, sorted_by, names_in_use, references_of}
+use Rattle.objects.proofs.Laws.{some_in, some_fields, some_refl}
 
 some_trans : {xs ys zs : List Object} → Some ys zs → Some xs ys → Some xs zs
 some_trans end s = s
@@ -217,6 +190,10 @@ module _ (os : List ℕ) where
       (λ u. absurd (both_ways (eqb x.name o) (apart os x.name o f m) u))
       (λ u. kept_stays o xs u m)
       (or_cases (eqb x.name o) (is_in o (names xs)) e))
+
+-- the objects in memory rise
+pub ordered : (t : Objects) → rising (names (heap_of t).objects) ≡ true
+ordered t = ap rising (names_in_place (vec_items t.objects)) ∙ t.ordered
 
 pub collects : (h : Heap) (listed : List ℕ) → rising (names h.objects) ≡ true → Collected h listed (collected listed h)
 collects h listed r =
