@@ -4,7 +4,7 @@
 
 #[cfg(test)]
 mod tests {
-    use objects::Objects;
+    use objects::{Object, Objects};
     use std::test::Fail;
     use wire::Refusal::{Malformed, NoField, NoRoom, NotRoot, OutOfNumbers};
     use wire::{House, Name, Refusal};
@@ -268,6 +268,18 @@ mod tests {
         assert_eq!(rt; summary(&used), (1, Some(Name(49))));
         let more = t.in_use(rt.alloc(), &[Name(32)])?;
         assert_eq!(rt; summary(&more), (2, Some(Name(33))));
+        Ok(())
+    }
+
+    // A copy of an object is alike, and stays as it was when the other is linked.
+    #[test]
+    fn copied(rt: HostRuntime) -> Result<(), Fail> {
+        let mut object = Object::new(Name(16));
+        object.link(Name(33));
+        let copy = object.clone()?;
+        object.link(Name(48));
+        assert_eq!(rt; (object.count(), copy.count()), (2, 1));
+        assert!(rt; copy.name() == Name(16) && copy.fields() == [Name(33)].as_slice());
         Ok(())
     }
 }

@@ -6,7 +6,7 @@
 mod tests {
     use std::process::Abort;
     use std::test::Fail;
-    use wire::{Census, House, Message, Name, Part, RoundNumber, Stamp, Tally};
+    use wire::{Census, House, Message, Name, Part, Refusal, RoundNumber, Stamp, Tally};
 
     const NO_OBJECTS: [u8; 0] = [];
 
@@ -173,5 +173,17 @@ mod tests {
         assert!(rt; Name::new(268435455, House(15)).is_ok());
         assert!(rt; Name::new(268435456, House(0)).is_err());
         assert!(rt; Name::new(0, House(0)).is_err());
+    }
+
+    // Numbers and refusals print as the programs show them.
+    #[test]
+    fn printed(rt: HostRuntime) -> Result<(), Fail> {
+        let (house, name, stamp, census) = (House(15), Name(33), Stamp(u32::MAX), Census(0));
+        let text = format!(in rt.alloc();
+            "{house} {name} {stamp} {census} {}",
+            Refusal::WrongHouse
+        )?;
+        assert!(rt; text.as_str() == "15 33 4294967295 0 11");
+        Ok(())
     }
 }
