@@ -1,5 +1,5 @@
 -- The stamps of a house: for each house what was given to it, seen from it and heard of it.
-use Rattle.std.specs.Prelude.{ℕ, ◌+◌, cond, replicate, Ok, Err, Result, nat_lt, slice_index, slice_set}
+use Rattle.std.specs.Prelude.{ℕ, ◌+◌, cond, List, replicate, Ok, Err, Result, nat_lt, slice_index, slice_set}
 use Rattle.wire.specs.declared.names.Stamp.{Stamp}
 use Rattle.wire.specs.declared.refusal.Refusal.{Refusal}
 use Rattle.wire.specs.declared.refusal.Refusal.TheVariants.{Malformed, OldStamp, OutOfNumbers}
@@ -7,6 +7,10 @@ use Rattle.lines.specs.declared.stamps.Stamps.{Stamps}
 
 abbrev pub stamp : ℕ → Stamp
 stamp s = record { 0 = s }
+
+-- what stands for house j in a row of sixteen
+abbrev pub stamp_at : ℕ → List ℕ → Result Stamp Refusal
+stamp_at j row = cond (nat_lt j 16) (Ok (stamp (slice_index row j))) (Err Malformed)
 
 -- nothing given, seen or heard yet
 abbrev pub unstamped : Stamps

@@ -58,8 +58,7 @@ impl Lines<'_> {
         let Some(at) = self.find(object, holder) else {
             return false;
         };
-        // a word of a column against a number
-        self.censuses[at] == census.0
+        Census(self.censuses[at]) == census
     }
 
     // The objects of all lines, in their order, written to the front of `into`.

@@ -1,5 +1,5 @@
 ghost use Rattle.std.specs.Prelude.{◌≡◌, ◌+◌, max, is_ok, if◌then◌else◌, slice_index};
-ghost use Rattle.lines.specs.Stamping.{stamp as stamped, unstamped, given_to, seen_from, heard_from, with_given, with_seen, with_heard, next_for, seeing, hearing};
+ghost use Rattle.lines.specs.Stamping.{stamp as stamped, stamp_at, unstamped, given_to, seen_from, heard_from, with_given, with_seen, with_heard, next_for, seeing, hearing};
 
 use crate::stamps::Stamps;
 use wire::{House, Refusal, Stamp};
@@ -34,11 +34,8 @@ impl Stamps {
     pub fn next_for(&self, house: House) -> Result<Stamp, Refusal>
         ensures { result ≡ next_for house.0 self.now }
     {
-        let last = self
-            .given
-            .get(usize::from(house.0))
-            .ok_or(Refusal::Malformed)?;
-        let next = last.checked_add(1).ok_or(Refusal::OutOfNumbers)?;
+        let last = stamp_at(&self.given, house)?;
+        let next = last.0.checked_add(1).ok_or(Refusal::OutOfNumbers)?;
         Ok(Stamp(next))
     }
 
@@ -58,11 +55,8 @@ impl Stamps {
         ensures after { self.new ≡ (if is_ok result then with_seen self.old house.0 stamp.0 else self.old) }
     {
         // no `get_mut` here and below: a proof knows no element of what it leaves
-        let seen = self
-            .seen
-            .get(usize::from(house.0))
-            .ok_or(Refusal::Malformed)?;
-        if stamp.0 <= *seen {
+        let seen = stamp_at(&self.seen, house)?;
+        if stamp <= seen {
             return Err(Refusal::OldStamp);
         }
         self.seen[usize::from(house.0)] = stamp.0;
@@ -74,18 +68,23 @@ impl Stamps {
         ensures value { result ≡ hearing house.0 }
         ensures after { self.new ≡ (if is_ok result then with_heard self.old house.0 (max (heard_from self.old house.0) stamp.0) else self.old) }
     {
-        let heard = self
-            .heard
-            .get(usize::from(house.0))
-            .ok_or(Refusal::Malformed)?;
-        self.heard[usize::from(house.0)] = stamp.0.max(*heard);
+        let heard = stamp_at(&self.heard, house)?;
+        self.heard[usize::from(house.0)] = stamp.max(heard).0;
         Ok(())
     }
 }
 
-// What stands for a house in one of the three rows.
+// What stands for a house in one of the three rows, of which each has sixteen places.
+fn stamp_at(row: &[u32; 16], house: House) -> Result<Stamp, Refusal>
+    ensures { result ≡ stamp_at house.0 row.now }
+{
+    let number = row.get(usize::from(house.0)).ok_or(Refusal::Malformed)?;
+    Ok(Stamp(*number))
+}
+
+// The same, and 0 for a house that has no place.
 fn stamp_of(row: &[u32; 16], house: House) -> Stamp
     ensures { result ≡ stamped (slice_index row.now house.0) }
 {
-    Stamp(row.get(usize::from(house.0)).copied().unwrap_or(0))
+    stamp_at(row, house).unwrap_or(Stamp(0))
 }

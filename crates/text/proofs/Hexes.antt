@@ -1,43 +1,69 @@
 -- Hexadecimal digits two by two.
-use Rattle.std.proofs.Common.{◌≡◌, ℕ, suc, ◌+◌, ◌-◌, ◌*◌, ◌/◌, ◌%◌, ◌<◌, ◌≤◌, true, false, cond, eqb, ltb, List, [], ◌∷◌, ◌++◌, length, get_or, take, drop, Some, None, Option, Ok, Err, Result, OkIff, option_map, Bool, Vec, vec_items, sym, refl, ap, ◌∙◌, ⊎_elim, append_assoc, append-nil, arith}
-use Rattle.std.proofs.lemmas.List.{take_all, take_more}
+use Rattle.std.proofs.Common.{◌≡◌, ℕ, suc, ◌+◌, ◌-◌, ◌*◌, ◌/◌, ◌%◌, ◌<◌, ◌≤◌, true, false, cond, eqb, ltb, List, [], ◌∷◌, ◌++◌, length, get_or, take, drop, Some, None, Option, Ok, Err, Result, OkIff, option_map, sym, refl, ap, ◌∙◌, ⊎_elim, append_assoc, append-nil, arith}
+use native.Mathlib.Nat.{add-div_left}
+use Rattle.std.proofs.lemmas.List.{take_all, take_more, at_drop_more, at_drop_all}
 use Rattle.std.proofs.lemmas.Bool.{eqb-true, eqb-false, lt-ltb, le-ltb, le-leb, lt-leb, cases_lt}
 use Rattle.std.proofs.lemmas.Bool.Decides.{nat_tests}
-use Rattle.std.specs.Bool.{then_some}
+use Rattle.std.specs.Simd.{first_chunks}
 use Rattle.std.proofs.lemmas.Fmt.{hex_byte}
 use Rattle.std.specs.Fmt.{AppendsText, digits, format_spec, padded_integral}
 use Rattle.std.specs.Char.{digit_value}
 use Rattle.std.specs.Result.{result_ok}
-use Rattle.std.specs.declared.alloc.Global.{Global}
-use Rattle.text.specs.Hex.{digit_of, byte_of, items_of, hex_of, before, after, char_of, hex_text, ReadsBack}
+use Rattle.text.specs.Hex.{digit_of, byte_of, hex_of, before, after, char_of, hex_text, ReadsBack}
 
-pairs : (xs : List ℕ) → 2 ≤ length xs → hex_of xs ≡ before (byte_of (get_or xs 0 0) (get_or xs 1 0)) (hex_of (take (length xs - 2) (drop 2 xs)))
-unfolding hex_of
-pairs [] h = absurd (omega arith)
-pairs (a ∷ []) h = absurd (omega arith)
-pairs (a ∷ b ∷ cs) h = let all : take (length (a ∷ b ∷ cs) - 2) cs ≡ cs = take_all _ cs (omega arith) in rw all
+before_none : (b : Option ℕ) → before b None ≡ None
+before_none None = refl
+before_none (Some b) = refl
 
-pub ends : (out xs : List ℕ) → eqb (length xs) 0 ≡ true → after out (hex_of xs) ≡ Some (out ++ [])
-unfolding hex_of
-ends out [] e = refl
-ends out (a ∷ cs) e = let z = eqb-true (length (a ∷ cs)) 0 e in absurd (omega arith)
+pub after_nothing : (r : Option (List ℕ)) → after [] r ≡ r
+after_nothing None = refl
+after_nothing (Some cs) = refl
 
-pub odd : (out xs : List ℕ) → length xs < 2 → eqb (length xs) 0 ≡ false → after out (hex_of xs) ≡ None
+-- the bytes that pairs of digits spell
+unfoldable pub spelled : List (List ℕ) → Option (List ℕ)
+spelled [] = Some []
+spelled (p ∷ ps) = before (byte_of (get_or p 0 0) (get_or p 1 0)) (spelled ps)
+
+in_pairs : (xs : List ℕ) → length xs % 2 ≡ 0 → hex_of xs ≡ spelled (first_chunks 2 (length xs / 2) xs)
+unfolding hex_of spelled
+in_pairs [] e = refl
+in_pairs (a ∷ []) e = absurd (omega arith)
+in_pairs (a ∷ b ∷ cs) e =
+    let z : length (a ∷ b ∷ cs) ≡ 2 + length cs = omega arith in
+    let p : 0 < 2 = omega arith in
+    let q : (2 + length cs) / 2 ≡ suc (length cs / 2) = add-div_left (length cs) p ∙ omega arith in
+    ap (before (byte_of a b)) (in_pairs cs (omega arith)) ∙ ap (λ n. spelled (first_chunks 2 n (a ∷ b ∷ cs))) (sym (ap (λ n. n / 2) z ∙ q))
+
+one_over : (xs : List ℕ) → length xs % 2 ≡ 1 → hex_of xs ≡ None
 unfolding hex_of
-odd out [] h e = absurd (eqb-false 0 0 e refl)
-odd out (a ∷ []) h e = refl
-odd out (a ∷ b ∷ cs) h e = absurd (omega arith)
+one_over [] e = absurd (omega arith)
+one_over (a ∷ []) e = refl
+one_over (a ∷ b ∷ cs) e = ap (before (byte_of a b)) (one_over cs (omega arith)) ∙ before_none (byte_of a b)
+
+-- what is left over after the pairs decides
+module _ (xs : List ℕ) (left : ℕ) (e : left ≡ length xs % 2) where
+  pub even : true ≡ eqb left 0 → hex_of xs ≡ spelled (first_chunks 2 (length xs / 2) xs)
+  even t = let z = eqb-true left 0 (sym t) in in_pairs xs (omega arith)
+
+  pub odd : false ≡ eqb left 0 → hex_of xs ≡ None
+  odd f = let z = eqb-false left 0 (sym f) in one_over xs (omega arith)
 
 joined : (out : List ℕ) (b : ℕ) (r : Option (List ℕ)) → after out (before (Some b) r) ≡ after (out ++ (b ∷ [])) r
 joined out b None = refl
 joined out b (Some cs) = ap Some (sym (append_assoc out (b ∷ []) cs))
 
-module _ (out xs : List ℕ) (h : 2 ≤ length xs) where
-  pub bad : byte_of (get_or xs 0 0) (get_or xs 1 0) ≡ None → after out (hex_of xs) ≡ None
-  bad e = ap (after out) (pairs xs h) ∙ rw e
+module _ (out : List ℕ) (ps : List (List ℕ)) (i : ℕ) where
+  pub bad : i < length ps → byte_of (get_or (get_or ps i []) 0 0) (get_or (get_or ps i []) 1 0) ≡ None → after out (spelled (drop i ps)) ≡ None
+  unfolding spelled
+  bad h e = at_drop_more (λ r. after out (spelled r)) ps i [] h ∙ rw e
 
-  pub both : (more : List ℕ) (b : ℕ) → byte_of (get_or xs 0 0) (get_or xs 1 0) ≡ Some b → more ≡ out ++ (b ∷ []) → after out (hex_of xs) ≡ after more (hex_of (take (length xs - 2) (drop 2 xs)))
-  both more b e g = ap (after out) (pairs xs h) ∙ rw (e, g) (joined out b (hex_of (take (length xs - 2) (drop 2 xs))))
+  pub both : (more : List ℕ) (b : ℕ) → i < length ps → byte_of (get_or (get_or ps i []) 0 0) (get_or (get_or ps i []) 1 0) ≡ Some b → more ≡ out ++ (b ∷ []) → after out (spelled (drop i ps)) ≡ after more (spelled (drop (i + 1) ps))
+  unfolding spelled
+  both more b h e g = at_drop_more (λ r. after out (spelled r)) ps i [] h ∙ rw (e, g) (joined out b (spelled (drop (i + 1) ps)))
+
+  pub ended : length ps ≤ i → after out (spelled (drop i ps)) ≡ Some out
+  unfolding spelled
+  ended h = at_drop_all (λ r. after out (spelled r)) ps i h ∙ ap Some (append-nil out)
 
 hex_text_append : (xs bs : List ℕ) → hex_text (xs ++ bs) ≡ hex_text xs ++ hex_text bs
 unfolding hex_text
@@ -102,8 +128,3 @@ read_digit c k d e h =
 pub made : {E : Type 0} (r : Result ℕ E) (n : ℕ) → OkIff r (n < 256) n → n < 256 → result_ok r ≡ Some n
 made (Ok x) n h l = ap Some h.1
 made (Err e) n h l = absurd (h l)
-
--- what is left over decides
-pub ended : (v : Vec ℕ Global) (xs : List ℕ) (b : Bool) → length xs < 2 → b ≡ eqb (length xs) 0 → items_of (then_some b v) ≡ after (vec_items v) (hex_of xs)
-ended v xs true h e = ap Some (sym (append-nil (vec_items v))) ∙ sym (ends (vec_items v) xs (sym e))
-ended v xs false h e = sym (odd (vec_items v) xs h (sym e))

@@ -17,16 +17,18 @@ fn byte(high: u8, low: u8) -> Option<u8>
 pub fn read_hex(heap: Global, digits: &[u8]) -> Result<Option<Vec<u8>>, AllocError>
     ensures { IfOk result (λ o. items_of o ≡ hex_of digits.now) }
 {
+    let (pairs, rest) = digits.as_chunks::<2>();
+    if !rest.is_empty() {
+        return Ok(None);
+    }
     let mut out = Vec::new(heap);
-    let mut rest = digits;
-    while let [high, low, more @ ..] = rest {
+    for [high, low] in pairs {
         let Some(byte) = byte(*high, *low) else {
             return Ok(None);
         };
         out.push(byte)?;
-        rest = more;
     }
-    Ok(rest.is_empty().then_some(out))
+    Ok(Some(out))
 }
 
 // Appends each byte as two hexadecimal digits.

@@ -1,19 +1,26 @@
-use Rattle.std.proofs.Common.{◌<◌, ◌≤◌, length, vec_items, sym, ap, ◌∙◌, arith, ltb-false, ltb-true}
-use Rattle.text.specs.Hex.{items_of}
-use Rattle.text.proofs.Hexes.{bad, both, ended}
+use Rattle.std.proofs.Common.{vec_items, sym, ap, ◌∙◌}
+use Rattle.text.specs.Hex.{after}
+use Rattle.text.proofs.Hexes.{spelled, after_nothing, even, odd, bad, both, ended}
 use Rattle.text.proofs.hex.read_hex.Goals as goal
 
-pub returns-in_default-byte : goal.returns-in_default-byte
-returns-in_default-byte c =
-    let h : 2 ≤ length c.loop-rest.rest.now = omega (arith, ltb-false) in
-    sym (c.loop-rest.invariant ∙ bad (vec_items c.loop-rest.out) c.loop-rest.rest.now h (sym c.in_default-byte.ensures))
+pub returns-then-not-is_empty : goal.returns-then-not-is_empty
+returns-then-not-is_empty c = sym (odd c.args.digits.now _ c.as_chunks.ensures.back_len c.if-not-is_empty.ensures)
 
-pub loop-rest-preserved : goal.loop-rest-preserved
-loop-rest-preserved c =
-    let h : 2 ≤ length c.loop-rest.rest.now = omega (arith, ltb-false) in
-    c.loop-rest.invariant ∙ both (vec_items c.loop-rest.out) c.loop-rest.rest.now h (vec_items c.push.new.self) c.in-Some.byte (sym c.in-Some.ensures) c.in_ok-push.ensures.items
+pub loop-high-init : goal.loop-high-init
+loop-high-init c =
+    even c.args.digits.now _ c.as_chunks.ensures.back_len c.if-not-is_empty.ensures
+    ∙ ap spelled (sym c.as_chunks.ensures.front)
+    ∙ sym (after_nothing (spelled c.as_chunks.result.0.now))
+    ∙ ap (λ o. after o (spelled c.as_chunks.result.0.now)) (sym c.new-out.ensures.items)
+
+pub returns-in_default : goal.returns-in_default
+returns-in_default c =
+    sym (c.loop-high.invariant ∙ bad (vec_items c.loop-high.out) c.as_chunks.result.0.now c.loop-high.high-index c.loop-high-test.true (sym c.in_default.ensures))
+
+pub loop-high-preserved : goal.loop-high-preserved
+loop-high-preserved c =
+    c.loop-high.invariant
+    ∙ both (vec_items c.loop-high.out) c.as_chunks.result.0.now c.loop-high.high-index (vec_items c.push.new.self) c.in-Some.byte c.loop-high-test.true (sym c.in-Some.ensures) c.in_ok-push.ensures.items
 
 pub returns : goal.returns
-returns c =
-    let h : length c.loop-rest.rest.now < 2 = omega (arith, ltb-true) in
-    ap items_of c.then_some.ensures ∙ ended c.loop-rest.out c.loop-rest.rest.now c.is_empty.result h c.is_empty.ensures ∙ sym c.loop-rest.invariant
+returns c = sym (c.loop-high.invariant ∙ ended (vec_items c.loop-high.out) c.as_chunks.result.0.now c.loop-high.high-index c.loop-high-test.false)
