@@ -16,7 +16,7 @@ fn told_line(heap: Global, store: &mut Store, line: &[u8]) -> Result<Answer, All
     }
 }
 
-// The lines that end at these places; how many were refused.
+// The lines that end at these places, as C hands them in; how many were refused.
 fn told(heap: Global, store: &mut Store, lines: &[u8], ends: &[u32]) -> u64 {
     let mut refused: u64 = 0;
     let mut at = 0;

@@ -16,7 +16,8 @@ pub(crate) fn quiet(res: Result<(), Refusal>) -> Answer
     Ok(Sent::Nothing)
 }
 
-// These calls ask for no tie between objects and list, so they take the two as they are.
+// These calls ask for no tie between objects and list, so they take the two as they are. `link`, `unlink` and `load` are a line each:
+// one method with a closure would have to say for each event what the closure does.
 impl Head {
     pub fn make(self, objects: &mut Objects, list: &Lines, number: u64) -> (Head, Answer)
         ensures { Steps result (make number) (house_of self objects.old list.now) objects.new list.now }

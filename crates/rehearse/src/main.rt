@@ -81,6 +81,7 @@ impl Rehearsal {
         let Some(bytes) = self.message(number)? else {
             return self.malformed(out);
         };
+        // at most four, so it fits
         let count = self.houses.len().min(4) as u8;
         match wire::read(&bytes, count).map(|read| node::goes_to(read.message)) {
             Ok(Recipient::One(house)) => self.got(house, &bytes, out),

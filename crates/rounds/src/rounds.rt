@@ -9,6 +9,7 @@ use crate::said::Said;
 use census::Mood;
 use wire::{House, Refusal, RoundNumber, Tally};
 
+// How many houses there are is handed in: kept here it would be a second copy of what the house knows.
 impl Desk {
     // No round was begun yet.
     pub fn new() -> Desk

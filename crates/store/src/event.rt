@@ -4,7 +4,7 @@ ghost use Rattle.store.specs.Events.{event_in};
 use node::{Answer, Head, Tables};
 use wire::Call;
 
-// What happens at a house.
+// What happens at a house. An enum of two: with a closure for the step the contract on the way would have to say what it decides for every head.
 #[derive(Clone, Copy)]
 pub(crate) enum Event<'a> {
     // a call of its programs, or of its collector

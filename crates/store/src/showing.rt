@@ -41,6 +41,7 @@ impl Store {
         }
         Some(Line {
             object: Name(self.held[i]),
+            // a word of a column that holds houses
             holder: House(self.holders[i] as u8),
             stamp: Stamp(self.stamps[i]),
             census: Census(self.censuses[i]),

@@ -16,6 +16,7 @@ struct Marking<'a> {
     ghost room: { length objects.now ≤ length marks.now },
 }
 
+// What the methods keep relates two states, so no ghost field can say it.
 impl Marking<'_> {
     // Marks the object named `p`; says whether it had no mark.
     fn note(&mut self, p: Name) -> bool

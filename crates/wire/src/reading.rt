@@ -145,6 +145,7 @@ impl<'a> Reader<'a> {
         Ok((census, self.name([*e, *f, *g, *h])?, self.house(*from)?))
     }
 
+    // A telling and its answer: what is left once `told` has read both is the case.
     fn telling(self) -> Result<Message, Refusal>
         ensures { result ≡ as_telling (telling_of self.entry.houses self.entry.bytes.now) }
     {
