@@ -1,5 +1,5 @@
 ghost use Rattle.std.specs.Prelude.{◌≡◌, option_map};
-ghost use Rattle.text.specs.Words.{words};
+ghost use Rattle.text.specs.Words.{words, NoneEmpty};
 ghost use Rattle.text.specs.Lines.{said, order_of, comment, line_said, line_of, played, by_word_at_house, at_house, by_word, play_said, play_of};
 
 use crate::calls::{read_call, read_command, sole, sole_word};
@@ -44,7 +44,8 @@ fn is_comment(word: &[u8]) -> bool
 
 // A line of the program `house`, which says nothing where it is empty or a comment.
 pub fn read_line(text: &[u8]) -> Result<Option<Order<'_>>, Refusal>
-    ensures { line_said result ≡ line_of (words text.now) }
+    ensures value { line_said result ≡ line_of (words text.now) }
+    ensures full { NoneEmpty }
 {
     match first_word(text) {
         Some((word, rest)) if !is_comment(word) => {
@@ -84,7 +85,8 @@ fn by_word<'a>(word: &'a [u8], rest: &'a [u8]) -> Option<Play<'a>>
 // A line of the program `rehearse`, which says nothing where it is empty or a comment. It is `read_line` but for what the words say:
 // with the reader of the words as a parameter the contract would have to say what that one ensures, and be longer than both.
 pub fn read_play(text: &[u8]) -> Result<Option<Play<'_>>, Refusal>
-    ensures { play_said result ≡ play_of (words text.now) }
+    ensures value { play_said result ≡ play_of (words text.now) }
+    ensures full { NoneEmpty }
 {
     match first_word(text) {
         Some((word, rest)) if !is_comment(word) => {
