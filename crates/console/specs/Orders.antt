@@ -1,13 +1,13 @@
 -- What becomes of an order, and what is printed of an answer.
-use Rattle.std.specs.Prelude.{◌≡◌, ℕ, List, [], ◌++◌, map, option_map, Some, None, Ok, Err, Option}
+use Rattle.std.specs.Prelude.{◌≡◌, false, ℕ, List, [], ◌++◌, map, option_map, Some, None, Ok, Err, Option}
 use Rattle.wire.specs.declared.refusal.Refusal.TheVariants.{Malformed}
 use Rattle.text.specs.Hex.{hex_of}
 use Rattle.text.specs.Lines.{Said, call, got}
 use Rattle.text.specs.Output.{refusal_line}
 use Rattle.objects.specs.declared.fault.Fault.TheVariants.{Refused, NoMemory}
 use Rattle.node.specs.House.{House}
-use Rattle.node.specs.Shown.{Answer, letters, event_of}
-use Rattle.node.specs.Step.{Outcome, Event, came, refused, step}
+use Rattle.node.specs.Shown.{Answer, Answers, Gives, letters, event_of}
+use Rattle.node.specs.Step.{Event, came, refused}
 use Rattle.store.specs.Sending.{bytes_of}
 
 -- the event that an order is; none where its digits spell no bytes
@@ -15,9 +15,10 @@ abbrev pub event_in : Said → Option Event
 event_in (call c) = Some (event_of c)
 event_in (got ds) = option_map came (hex_of ds)
 
-abbrev pub outcome_of : Option Event → House → Outcome
-outcome_of None h = refused Malformed h
-outcome_of (Some e) h = step h e
+-- what is answered to it, and the house afterwards
+abbrev pub Follows : Answer → Option Event → House → House → Type 0
+Follows a None before after = Gives false a (refused Malformed before) before after
+Follows a (Some e) before after = Answers a e before after
 
 -- messages are handed on, and a refusal is printed
 abbrev pub Shows : Answer → List (List ℕ) → List ℕ → List ℕ → Type 0

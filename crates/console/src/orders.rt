@@ -1,9 +1,8 @@
 ghost use Rattle.std.specs.Prelude.{◌≡◌, string_bytes, IfOk, OnErr};
 ghost use Rattle.text.specs.Lines.{said};
-ghost use Rattle.node.specs.Shown.{Gives};
 ghost use Rattle.store.specs.Sending.{contents};
 ghost use Rattle.store.specs.Stores.{house_in};
-ghost use Rattle.console.specs.Orders.{event_in, outcome_of, Shows};
+ghost use Rattle.console.specs.Orders.{event_in, Follows, Shows};
 
 use anyhow::anyhow;
 use node::Answer;
@@ -15,7 +14,7 @@ use wire::Refusal;
 
 // A house does what it is told.
 pub fn follow(heap: Global, store: &mut Store, order: Order<'_>) -> Result<Answer, AllocError>
-    ensures step { IfOk result (λ a. Gives a (outcome_of (event_in (said order.entry)) (house_in store.old)) (house_in store.old) (house_in store.new)) }
+    ensures step { IfOk result (λ a. Follows a (event_in (said order.entry)) (house_in store.old) (house_in store.new)) }
     ensures kept { OnErr result (house_in store.new ≡ house_in store.old) }
 {
     match order {

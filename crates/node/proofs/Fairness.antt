@@ -20,7 +20,7 @@ use Rattle.objects.specs.declared.store.Objects.{Objects}
 use Rattle.lines.specs.declared.table.Lines.{Lines}
 use Rattle.node.specs.declared.head.Head.{Head}
 use Rattle.node.specs.Tied.{Tied}
-use Rattle.node.specs.Shown.{Answer, Gives, Steps, house_of}
+use Rattle.node.specs.Shown.{Answer, Gives, Steps, allocates, house_of}
 
 pub by_cases : {X : Type 0} (b : Bool) → (b ≡ true → X) → (b ≡ false → X) → X
 by_cases true f g = f refl
@@ -118,13 +118,13 @@ always_fair h round = fair_refused _ h
 always_fair h (came bs) = fair_read (decode (houses h) bs) bs h
 
 -- so the house afterwards is the same house
-pub same_house : (a : Answer) (h g : House) (x : Outcome) → Fair h x → Gives a x h g → (g.heap.home ≡ h.heap.home) × (g.heap.houses ≡ h.heap.houses)
-same_house (Ok s) h g x f e = (sym (ap (λ y. y.house.heap.home) e) ∙ f.home, sym (ap (λ y. y.house.heap.houses) e) ∙ f.houses)
-same_house (Err (Refused r)) h g x f e = (sym (ap (λ y. y.house.heap.home) e) ∙ f.home, sym (ap (λ y. y.house.heap.houses) e) ∙ f.houses)
-same_house (Err NoMemory) h g x f e = (ap (λ y. y.heap.home) e, ap (λ y. y.heap.houses) e)
+pub same_house : (b : Bool) (a : Answer) (h g : House) (x : Outcome) → Fair h x → Gives b a x h g → (g.heap.home ≡ h.heap.home) × (g.heap.houses ≡ h.heap.houses)
+same_house b (Ok s) h g x f e = (sym (ap (λ y. y.house.heap.home) e) ∙ f.home, sym (ap (λ y. y.house.heap.houses) e) ∙ f.houses)
+same_house b (Err (Refused r)) h g x f e = (sym (ap (λ y. y.house.heap.home) e) ∙ f.home, sym (ap (λ y. y.house.heap.houses) e) ∙ f.houses)
+same_house b (Err NoMemory) h g x f e = (ap (λ y. y.heap.home) e.1, ap (λ y. y.heap.houses) e.1)
 
 -- and its objects are still tied to the list
 pub still_tied : (e : Event) (h : Head) (os qs : Objects) (ls : Lines) (r : Head × Answer) → Tied os ls → Steps r e (house_of h os ls) qs ls → Tied qs ls
 still_tied e h os qs ls r t s =
-    let same = same_house r.1 (house_of h os ls) (house_of r.0 qs ls) (step (house_of h os ls) e) (always_fair (house_of h os ls) e) s in
+    let same = same_house (allocates e (house_of h os ls)) r.1 (house_of h os ls) (house_of r.0 qs ls) (step (house_of h os ls) e) (always_fair (house_of h os ls) e) s in
     record { home = t.home ∙ sym same.0; houses = t.houses ∙ sym same.1; room = t.room }

@@ -1,4 +1,4 @@
-ghost use Rattle.std.specs.Prelude.{◌≡◌, [], IfOk};
+ghost use Rattle.std.specs.Prelude.{◌≡◌, true, [], IfOk};
 ghost use Rattle.tables.specs.Shown.{numbers};
 ghost use Rattle.objects.specs.Calls.{heap_of};
 ghost use Rattle.objects.specs.Executed.{names_in_use};
@@ -6,7 +6,7 @@ ghost use Rattle.node.specs.Step.{used, caught_up, polled, worded, bytes_of, col
 ghost use Rattle.lines.specs.declared.table.Lines.{Lines};
 ghost use Rattle.lines.specs.Lists.{Lent};
 ghost use Rattle.node.specs.Tied.{Tied};
-ghost use Rattle.node.specs.Shown.{house_of, Does, Gives, Steps};
+ghost use Rattle.node.specs.Shown.{always, house_of, Does, Gives, Steps};
 
 use crate::head::Head;
 use crate::lent::Tables;
@@ -83,7 +83,7 @@ impl Head {
         census: Census,
         number: RoundNumber,
     ) -> (Head, Answer)
-        ensures { Does (polled census.0 number.0) self tables.old result tables.new }
+        ensures { Does always (polled census.0 number.0) self tables.old result tables.new }
     {
         if census < self.standing.census() {
             return (self, Err(Refusal::OtherCensus.into()));
@@ -108,7 +108,7 @@ impl Head {
     }
 
     fn word_for(&self, objects: &Objects, to: House) -> Answer
-        ensures { (ls : Lines) → Gives result (worded to.0 (house_of self.now objects.now ls)) (house_of self.now objects.now ls) (house_of self.now objects.now ls) }
+        ensures { (ls : Lines) → Gives true result (worded to.0 (house_of self.now objects.now ls)) (house_of self.now objects.now ls) (house_of self.now objects.now ls) }
     {
         let from = objects.home();
         // by number: how many houses there are is no house

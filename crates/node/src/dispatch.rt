@@ -3,7 +3,7 @@ ghost use Rattle.lines.specs.Stamping.{unstamped};
 ghost use Rattle.census.specs.Model.{fresh};
 ghost use Rattle.census.specs.Standings.{part_of};
 ghost use Rattle.node.specs.Laws.{Lawful};
-ghost use Rattle.node.specs.Shown.{by, Does, event_of};
+ghost use Rattle.node.specs.Shown.{allocates, by, Does, event_of};
 
 use crate::head::Head;
 use crate::lent::Tables;
@@ -36,7 +36,7 @@ impl Head {
 
     // A call of the house's programs, or of its collector.
     pub fn call(self, tables: &mut Tables, call: Call) -> (Head, Answer)
-        ensures { Does (by (event_of call)) self tables.old result tables.new }
+        ensures { Does (allocates (event_of call)) (by (event_of call)) self tables.old result tables.new }
     {
         match call {
             Call::Make { number } => self.make(tables.objects, tables.list, number),

@@ -8,7 +8,7 @@ ghost use Rattle.lines.specs.Stamping.{heard_from};
 ghost use Rattle.census.specs.Model.{fresh};
 ghost use Rattle.census.specs.Standings.{part_of};
 ghost use Rattle.node.specs.Step.{authorised, caught_up, gives, handed, takes, hears, told, settles, sweeps};
-ghost use Rattle.node.specs.Shown.{house_lent, house_of, Does};
+ghost use Rattle.node.specs.Shown.{house_lent, house_of, never, Does};
 
 use crate::calls::quiet;
 use crate::head::Head;
@@ -29,7 +29,7 @@ impl Head {
 
     // The object is handed to another house.
     fn give(&mut self, tables: &mut Tables, object: Name, to: House) -> Answer
-        ensures { Does (gives object.0 to.0) self.old tables.old (self.new, result) tables.new }
+        ensures { Does never (gives object.0 to.0) self.old tables.old (self.new, result) tables.new }
     {
         if !tables.list.has_room(object, to) {
             return Err(Refusal::NoRoom.into());
@@ -50,7 +50,7 @@ impl Head {
         by: House,
         to: House,
     ) -> (Head, Answer)
-        ensures { Does (handed object.0 by.0 to.0) self tables.old result tables.new }
+        ensures { Does never (handed object.0 by.0 to.0) self tables.old result tables.new }
     {
         let home = tables.list.home;
         if object.home() != home {
@@ -77,7 +77,7 @@ impl Head {
         to: House,
         stamp: Stamp,
     ) -> (Head, Answer)
-        ensures { Does (takes object.0 to.0 stamp.0) self tables.old result tables.new }
+        ensures { Does never (takes object.0 to.0 stamp.0) self tables.old result tables.new }
     {
         let home = tables.list.home;
         let from = object.home();
@@ -106,7 +106,7 @@ impl Head {
         part: &[u8],
     ) -> (Head, Answer)
         requires { rising to.0 15 (numbers part.now) ≡ true }
-        ensures { Does (hears from.0 to.0 stamp.0 (numbers part.now)) self tables.old result tables.new }
+        ensures { Does never (hears from.0 to.0 stamp.0 (numbers part.now)) self tables.old result tables.new }
     {
         let home = tables.list.home;
         if to != home {
@@ -138,7 +138,7 @@ impl Head {
         object: Name,
         from: House,
     ) -> (Head, Answer)
-        ensures { Does (told census.0 object.0 from.0) self tables.old result tables.new }
+        ensures { Does never (told census.0 object.0 from.0) self tables.old result tables.new }
     {
         let home = tables.list.home;
         if object.home() != home {
@@ -167,7 +167,7 @@ impl Head {
         object: Name,
         from: House,
     ) -> (Head, Answer)
-        ensures { Does (settles census.0 object.0 from.0) self tables.now result tables.now }
+        ensures { Does never (settles census.0 object.0 from.0) self tables.now result tables.now }
     {
         if from != tables.list.home {
             return (self, Err(Refusal::Misdelivered.into()));
@@ -179,7 +179,7 @@ impl Head {
 
     // The news that a census is complete.
     pub(crate) fn sweep(self, tables: &mut Tables, census: Census) -> (Head, Answer)
-        ensures { Does (sweeps census.0) self tables.old result tables.new }
+        ensures { Does never (sweeps census.0) self tables.old result tables.new }
     {
         if census != self.standing.census() {
             return (self, Err(Refusal::OtherCensus.into()));

@@ -1,4 +1,4 @@
-ghost use Rattle.node.specs.Shown.{by, Does};
+ghost use Rattle.node.specs.Shown.{allocates, by, Does};
 ghost use Rattle.store.specs.Events.{event_in};
 
 use node::{Answer, Head, Tables};
@@ -16,7 +16,7 @@ pub(crate) enum Event<'a> {
 impl Event<'_> {
     // The step of a house at this event.
     pub(crate) fn at(self, head: Head, tables: &mut Tables) -> (Head, Answer)
-        ensures { Does (by (event_in self.entry)) head tables.old result tables.new }
+        ensures { Does (allocates (event_in self.entry)) (by (event_in self.entry)) head tables.old result tables.new }
     {
         match self {
             Event::Call(call) => head.call(tables, call),

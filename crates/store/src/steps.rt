@@ -1,8 +1,8 @@
 ghost use Rattle.std.specs.Prelude.{◌≡◌, MatchResult};
 ghost use Rattle.objects.specs.Calls.{Unmade};
 ghost use Rattle.node.specs.House.{empty};
-ghost use Rattle.node.specs.Shown.{Gives, event_of};
-ghost use Rattle.node.specs.Step.{step, came};
+ghost use Rattle.node.specs.Shown.{Answers, event_of};
+ghost use Rattle.node.specs.Step.{came};
 ghost use Rattle.store.specs.Events.{event_in};
 ghost use Rattle.store.specs.Stores.{house_in};
 
@@ -35,21 +35,21 @@ impl Store {
 
     // A call of the house's programs, or of its collector.
     pub fn call(&mut self, call: Call) -> Answer
-        ensures step { Gives result (step (house_in self.old) (event_of call)) (house_in self.old) (house_in self.new) }
+        ensures step { Answers result (event_of call) (house_in self.old) (house_in self.new) }
     {
         self.step(Event::Call(call))
     }
 
     // These bytes came to the house, whatever they are.
     pub fn got(&mut self, bytes: &[u8]) -> Answer
-        ensures step { Gives result (step (house_in self.old) (came bytes.now)) (house_in self.old) (house_in self.new) }
+        ensures step { Answers result (came bytes.now) (house_in self.old) (house_in self.new) }
     {
         self.step(Event::Came(bytes))
     }
 
     // The tables are lent to the head for one step.
     fn step(&mut self, event: Event) -> Answer
-        ensures { Gives result (step (house_in self.old) (event_in event.entry)) (house_in self.old) (house_in self.new) }
+        ensures { Answers result (event_in event.entry) (house_in self.old) (house_in self.new) }
     {
         let head = std::mem::replace(&mut self.head, Head::new(self.heap));
         let mut list = Lines {
