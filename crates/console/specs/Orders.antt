@@ -5,9 +5,9 @@ use Rattle.text.specs.Hex.{hex_of}
 use Rattle.text.specs.Lines.{Said, call, got}
 use Rattle.text.specs.Output.{refusal_line}
 use Rattle.objects.specs.declared.fault.Fault.TheVariants.{Refused, NoMemory}
-use Rattle.node.specs.House.{House}
-use Rattle.node.specs.Shown.{Answer, Answers, Gives, letters, event_of}
-use Rattle.node.specs.Step.{Event, came, refused}
+use Rattle.rules.specs.House.{House}
+use Rattle.rules.specs.Step.{Event, came, event_of, refused}
+use Rattle.node.specs.Shown.{Answer, Answers, Gives, letters}
 use Rattle.store.specs.Sending.{bytes_of}
 
 -- the event that an order is; none where its digits spell no bytes

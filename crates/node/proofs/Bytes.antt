@@ -9,7 +9,7 @@ use Rattle.std.specs.declared.alloc.AllocError.{AllocError}
 use Rattle.std.specs.declared.alloc.Global.{Global}
 use Rattle.tables.specs.Met.{Lists}
 use Rattle.objects.specs.Laws.{Sole}
-use Rattle.node.specs.Step.{bytes_of}
+use Rattle.rules.specs.Step.{bytes_of}
 
 numbers_names : (os : List ℕ) → numbers (map name os) ≡ os
 numbers_names [] = refl

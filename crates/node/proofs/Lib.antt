@@ -1,4 +1,3 @@
 pub mod Bytes
 pub mod Words
-pub mod Fairness
-pub mod Twice
+pub mod Ties

@@ -6,8 +6,8 @@ use Rattle.objects.specs.Executed.{references_of}
 use Rattle.lines.specs.Stamping.{stamp, seen_from}
 use Rattle.wire.specs.declared.names.Stamp.{Stamp}
 use Rattle.wire.specs.declared.message.Message.TheVariants.{Word}
-use Rattle.node.specs.House.{House, self, houses}
-use Rattle.node.specs.Step.{worded, bytes_of}
+use Rattle.rules.specs.House.{House, self, houses}
+use Rattle.rules.specs.Step.{worded, bytes_of}
 
 pub word_step :
     (h : House) (j : ℕ) (from to : wire.House) (st : Stamp) (k : ℕ) (bs : List ℕ) → leb (houses h) j ≡ false → eqb j (self h) ≡ false → from ≡ house (self h) → to ≡ house j → st ≡ stamp (seen_from h.stamps j) →

@@ -13,17 +13,16 @@ use Rattle.objects.specs.Calls.{heap_of}
 use Rattle.lines.specs.declared.table.Lines.{Lines}
 use Rattle.lines.specs.Lists.{lines, Lent}
 use Rattle.census.specs.Standings.{part_of}
+use Rattle.rounds.specs.Shown.{desk_of}
 use Rattle.node.specs.declared.head.Head.{Head}
 use Rattle.node.specs.declared.sent.Sent.{Sent}
 use Rattle.node.specs.declared.sent.Sent.TheVariants.{Nothing, One, Word, Tellings}
 use Rattle.node.specs.declared.lent.Tables.{Tables}
-use Rattle.node.specs.House.{House, houses}
-use Rattle.wire.specs.declared.call.Call.{Call}
-use Rattle.wire.specs.declared.call.Call.TheVariants as call
-use Rattle.node.specs.Step.{Letter, Outcome, letter, Event, make, link, unlink, load, drop, ask, collect, word, join, tell, round, came, step}
+use Rattle.rules.specs.House.{House, houses}
+use Rattle.rules.specs.Step.{Letter, Outcome, letter, Event, make, link, unlink, load, drop, ask, collect, word, join, tell, round, came, step}
 
 abbrev pub house_of : Head → Objects → Lines → House
-house_of h os ls = record { heap = heap_of os; list = lines ls; stamps = h.stamps; part = part_of h.standing }
+house_of h os ls = record { heap = heap_of os; list = lines ls; stamps = h.stamps; part = part_of h.standing; desk = desk_of h.desk }
 
 -- the house whose tables are lent together
 abbrev pub house_lent : Head → Tables → House
@@ -108,17 +107,3 @@ by e h = step h e
 -- what a method handed back is the step of a house at an event
 abbrev pub Steps : Head × Answer → Event → House → Objects → Lines → Type 0
 Steps r e before os ls = Answers r.1 e before (house_of r.0 os ls)
-
--- the event that a call is
-abbrev pub event_of : Call → Event
-event_of (call.Make k) = make k
-event_of (call.Link o p) = link o.0 p.0
-event_of (call.Unlink o p) = unlink o.0 p.0
-event_of (call.Load o p) = load o.0 p.0
-event_of (call.Drop o) = drop o.0
-event_of (call.Ask o j) = ask o.0 j.0
-event_of call.Collect = collect
-event_of (call.Word j) = word j.0
-event_of (call.Join c) = join c
-event_of call.Tell = tell
-event_of call.Round = round

@@ -1,5 +1,5 @@
 ghost use Rattle.std.specs.Prelude.{◌≡◌};
-ghost use Rattle.node.specs.Step.{make, link, unlink, load, drop, ask, round};
+ghost use Rattle.rules.specs.Step.{make, link, unlink, load, drop, ask};
 ghost use Rattle.node.specs.Shown.{house_of, Steps, quieted};
 
 use crate::head::Head;
@@ -81,11 +81,5 @@ impl Head {
         }
         let by = objects.home();
         (self, Ok(Sent::One(Message::Ask { object, by, to })))
-    }
-
-    pub fn round(self, objects: &Objects, list: &Lines) -> (Head, Answer)
-        ensures { Steps result round (house_of self objects.now list.now) objects.now list.now }
-    {
-        (self, Err(Refusal::WrongHouse.into()))
     }
 }

@@ -2,7 +2,7 @@ ghost use Rattle.std.specs.Prelude.{◌≡◌, true, [], IfOk};
 ghost use Rattle.tables.specs.Shown.{numbers};
 ghost use Rattle.objects.specs.Calls.{heap_of};
 ghost use Rattle.objects.specs.Executed.{names_in_use};
-ghost use Rattle.node.specs.Step.{used, caught_up, polled, worded, bytes_of, collect, word, join, tell};
+ghost use Rattle.rules.specs.Step.{used, caught_up, polled, worded, bytes_of, collect, word, join, tell};
 ghost use Rattle.lines.specs.declared.table.Lines.{Lines};
 ghost use Rattle.lines.specs.Lists.{Lent};
 ghost use Rattle.node.specs.Tied.{Tied};

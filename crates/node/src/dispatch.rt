@@ -2,28 +2,34 @@ ghost use Rattle.std.specs.Prelude.{◌≡◌};
 ghost use Rattle.lines.specs.Stamping.{unstamped};
 ghost use Rattle.census.specs.Model.{fresh};
 ghost use Rattle.census.specs.Standings.{part_of};
-ghost use Rattle.node.specs.Laws.{Lawful};
-ghost use Rattle.node.specs.Shown.{allocates, by, Does, event_of};
+ghost use Rattle.rounds.specs.Model.{idle};
+ghost use Rattle.rounds.specs.Shown.{desk_of};
+ghost use Rattle.rules.specs.Laws.{Lawful};
+ghost use Rattle.rules.specs.Step.{event_of};
+ghost use Rattle.node.specs.Shown.{allocates, by, Does};
 
 use crate::head::Head;
 use crate::lent::Tables;
 use crate::sent::Answer;
 use census::Standing;
 use lines::Stamps;
+use rounds::Desk;
 use std::alloc::Global;
-use wire::{Call, Census};
+use wire::{Call, Census, Tally};
 
 impl Head {
     // Nothing given, seen, heard or told yet.
     pub fn new(heap: Global) -> Head
         ensures stamps { result.stamps ≡ unstamped }
         ensures part { part_of result.standing ≡ fresh 0 }
+        ensures desk { desk_of result.desk ≡ idle }
         ensures lawful { Lawful }
     {
         Head {
             heap,
             stamps: Stamps::new(),
             standing: Standing::new(heap),
+            desk: Desk::new(),
         }
     }
 
@@ -32,6 +38,13 @@ impl Head {
         ensures { result.0 ≡ (part_of self.now.standing).census }
     {
         self.standing.census()
+    }
+
+    // How many of its lines were newly marked in that census.
+    pub fn tally(&self) -> Tally
+        ensures { result.0 ≡ (part_of self.now.standing).tally }
+    {
+        self.standing.tally()
     }
 
     // A call of the house's programs, or of its collector.

@@ -1,7 +1,8 @@
-// One house: every call and every message as one step over its objects, its list, its stamps and its part in the census.
+// One house: every call and every message as one step over its objects, its list, its stamps, its part in the census and its rounds.
 
 #![tactic(auto)]
 
+mod asking;
 mod calls;
 mod collecting;
 mod dispatch;

@@ -7,7 +7,7 @@ ghost use Rattle.objects.specs.declared.store.Objects.{Objects};
 ghost use Rattle.lines.specs.Stamping.{heard_from};
 ghost use Rattle.census.specs.Model.{fresh};
 ghost use Rattle.census.specs.Standings.{part_of};
-ghost use Rattle.node.specs.Step.{authorised, caught_up, gives, handed, takes, hears, told, settles, sweeps};
+ghost use Rattle.rules.specs.Step.{authorised, caught_up, gives, handed, takes, hears, told, settles, sweeps};
 ghost use Rattle.node.specs.Shown.{house_lent, house_of, never, Does};
 
 use crate::calls::quiet;
@@ -16,6 +16,7 @@ use crate::lent::Tables;
 use crate::sent::{Answer, Sent};
 use census::Marked;
 use lines::Lines;
+use rounds::Desk;
 use wire::{Census, House, Message, Name, Refusal, Stamp};
 
 impl Head {
@@ -127,6 +128,7 @@ impl Head {
         }
         list.join(census, &self.stamps);
         (self.standing, _) = self.standing.join(census);
+        self.desk = Desk::new();
         self
     }
 

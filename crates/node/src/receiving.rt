@@ -1,12 +1,13 @@
 ghost use Rattle.std.specs.Prelude.{◌≡◌};
 ghost use Rattle.wire.specs.Laws.{Rises};
-ghost use Rattle.node.specs.Step.{receives, came};
+ghost use Rattle.rules.specs.Step.{receives, came};
 ghost use Rattle.node.specs.Shown.{allocates, by, is_round, Does};
 
 use crate::head::Head;
 use crate::lent::Tables;
 use crate::sent::Answer;
-use wire::{Message, Refusal};
+use census::Mood;
+use wire::Message;
 
 impl Head {
     // A message that was read, with its objects' part.
@@ -34,7 +35,13 @@ impl Head {
                 from,
             } => self.settle(tables, census, object, from),
             Message::Round { census, number } => self.poll(tables, census, number),
-            Message::Reply { .. } => (self, Err(Refusal::Misdelivered.into())),
+            Message::Reply {
+                census,
+                number,
+                from,
+                calm,
+                tally,
+            } => self.note(tables, census, number, from, Mood::from(calm), tally),
             Message::Complete { census } => self.sweep(tables, census),
         }
     }

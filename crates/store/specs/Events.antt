@@ -1,9 +1,8 @@
 -- What happens at a house.
 use Rattle.store.specs.declared.event.Event.{Event}
 use Rattle.store.specs.declared.event.Event.TheVariants.{Call, Came}
-use Rattle.node.specs.Shown.{event_of}
-use Rattle.node.specs.Step as steps
-use Rattle.node.specs.Step.{came}
+use Rattle.rules.specs.Step as steps
+use Rattle.rules.specs.Step.{came, event_of}
 
 abbrev pub event_in : Event → steps.Event
 event_in (Call c) = event_of c

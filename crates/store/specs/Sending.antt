@@ -8,7 +8,7 @@ use Rattle.wire.specs.declared.names.Name.{Name}
 use Rattle.wire.specs.Format.{encode}
 use Rattle.wire.specs.Names.{name}
 use Rattle.tables.specs.Shown.{numbers}
-use Rattle.node.specs.Step.{Letter, letter}
+use Rattle.rules.specs.Step.{Letter, letter}
 
 abbrev pub bytes_of : Letter → List ℕ
 bytes_of l = encode l.0 l.1

@@ -6,7 +6,7 @@ use wire::Call;
 
 // What happens at a house. An enum of two: with a closure for the step the contract on the way would have to say what it decides for every head.
 #[derive(Clone, Copy)]
-pub(crate) enum Event<'a> {
+pub enum Event<'a> {
     // a call of its programs, or of its collector
     Call(Call),
     // these bytes come, whatever they are

@@ -8,5 +8,6 @@ mod showing;
 mod steps;
 mod table;
 
+pub use event::Event;
 pub use sending::messages;
 pub use table::Store;

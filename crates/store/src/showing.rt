@@ -1,13 +1,13 @@
 ghost use Rattle.std.specs.Prelude.{◌≡◌};
 ghost use Rattle.tables.specs.Shown.{numbers, objects_of};
 ghost use Rattle.lines.specs.Lists.{line_at};
-ghost use Rattle.node.specs.House.{census};
+ghost use Rattle.rules.specs.House.{census};
 ghost use Rattle.store.specs.Stores.{house_in};
 
 use crate::table::Store;
 use lines::Line;
 use tables::Object;
-use wire::{Census, House, Name, Stamp};
+use wire::{Census, House, Name, Stamp, Tally};
 
 impl Store {
     // The census that the house is in.
@@ -15,6 +15,13 @@ impl Store {
         ensures { result.0 ≡ census (house_in self.now) }
     {
         self.head.census()
+    }
+
+    // How many of its lines were newly marked in that census.
+    pub fn tally(&self) -> Tally
+        ensures { result.0 ≡ (house_in self.now).part.tally }
+    {
+        self.head.tally()
     }
 
     // The objects, in rising order of their names.

@@ -1,8 +1,8 @@
 ghost use Rattle.std.specs.Prelude.{◌≡◌, MatchResult};
 ghost use Rattle.objects.specs.Calls.{Unmade};
-ghost use Rattle.node.specs.House.{empty};
-ghost use Rattle.node.specs.Shown.{Answers, event_of};
-ghost use Rattle.node.specs.Step.{came};
+ghost use Rattle.rules.specs.House.{empty};
+ghost use Rattle.rules.specs.Step.{came, event_of};
+ghost use Rattle.node.specs.Shown.{Answers};
 ghost use Rattle.store.specs.Events.{event_in};
 ghost use Rattle.store.specs.Stores.{house_in};
 
@@ -47,8 +47,8 @@ impl Store {
         self.step(Event::Came(bytes))
     }
 
-    // The tables are lent to the head for one step.
-    fn step(&mut self, event: Event) -> Answer
+    // Whatever happens at the house: the tables are lent to its head for one step.
+    pub fn step(&mut self, event: Event) -> Answer
         ensures { Answers result (event_in event.entry) (house_in self.old) (house_in self.new) }
     {
         let head = std::mem::replace(&mut self.head, Head::new(self.heap));

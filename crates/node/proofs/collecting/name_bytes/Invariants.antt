@@ -1,6 +1,6 @@
 use Rattle.std.proofs.Common.{◌≡◌, take, vec_items}
 use Rattle.tables.specs.Shown.{numbers}
-use Rattle.node.specs.Step.{bytes_of}
+use Rattle.rules.specs.Step.{bytes_of}
 use Rattle.node.proofs.collecting.name_bytes.Given as goal
 
 abbrev pub invariant-loop-name : goal.invariant-loop-name

@@ -1,5 +1,5 @@
-use Rattle.node.specs.Step.{link, unlink, load, drop}
-use Rattle.node.proofs.Fairness.{still_tied}
+use Rattle.rules.specs.Step.{link, unlink, load, drop}
+use Rattle.node.proofs.Ties.{still_tied}
 use Rattle.node.proofs.head.Head.call.Goals as goal
 
 pub invariant_of-tables-in-Link : goal.invariant_of-tables-in-Link

@@ -5,9 +5,9 @@ use Rattle.objects.specs.Executed.{collected}
 use Rattle.objects.proofs.Reached.{collects, ordered}
 use Rattle.lines.specs.Listed.{objects_listed}
 use Rattle.lines.specs.Lists.{lines}
-use Rattle.node.specs.House.{with_heap}
+use Rattle.rules.specs.House.{with_heap}
 use Rattle.node.specs.Shown.{house_of}
-use Rattle.node.specs.Step.{sends}
+use Rattle.rules.specs.Step.{sends}
 use Rattle.node.proofs.Bytes.{back}
 use Rattle.node.proofs.head.Head.collect.Goals as goal
 

@@ -4,9 +4,9 @@ use Rattle.lines.specs.Lists.{lines}
 use Rattle.lines.specs.Stamping.{heard_from}
 use Rattle.objects.specs.Calls.{heap_of}
 use Rattle.objects.specs.Executed.{names_in_use}
-use Rattle.node.specs.House.{census}
+use Rattle.rules.specs.House.{census}
 use Rattle.node.specs.Shown.{house_of}
-use Rattle.node.specs.Step.{used, caught_up, in_census}
+use Rattle.rules.specs.Step.{used, caught_up, in_census}
 use Rattle.node.proofs.Bytes.{back, found_also}
 use Rattle.node.proofs.head.Head.in_use.Goals as goal
 

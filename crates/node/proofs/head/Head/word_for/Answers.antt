@@ -6,7 +6,7 @@ use Rattle.objects.specs.Calls.{heap_of}
 use Rattle.objects.specs.Executed.{references_of}
 use Rattle.objects.proofs.Reached.{refers}
 use Rattle.node.specs.Shown.{house_of}
-use Rattle.node.specs.Step.{bytes_of}
+use Rattle.rules.specs.Step.{bytes_of}
 use Rattle.node.proofs.Words.{word_step}
 use Rattle.node.proofs.head.Head.word_for.Goals as goal
 
