@@ -5,36 +5,51 @@
 use anyhow::anyhow;
 use console::Player;
 use lines::Line;
-use node::{Answer, Recipient};
+use net::{Net, Played, Setback};
+use node::Recipient;
+use objects::Fault;
 use std::alloc::{AllocError, Global};
 use std::fmt::Write;
 use std::process::ExitCode;
-use store::Store;
 use tables::Object;
-use text::Play;
+use text::{Order, Play};
 use wire::{House, Refusal};
 
 const USAGE: &str =
     "usage: rehearse N   (N houses, from 1 to 4; calls and deliveries on standard input)";
 
-// The houses, and every message that was sent, in the order of sending.
+// The net, and how many of its messages were printed.
 #[derive(Drop)]
 struct Rehearsal {
     heap: Global,
-    houses: Vec<Store>,
-    sent: Vec<Vec<u8>>,
+    net: Net,
+    printed: usize,
+}
+
+// The place of a message that is counted from 1.
+fn place(number: u64) -> Option<usize> {
+    usize::try_from(number.checked_sub(1)?).ok()
 }
 
 impl Rehearsal {
-    // What a house answered: the messages are kept, and printed with their numbers.
-    fn report(&mut self, answer: Answer, out: &mut String) -> anyhow::Result<()> {
-        for bytes in console::messages(self.heap, answer, out)? {
-            let number = self.sent.len().saturating_add(1);
-            write!(out, "{number} ")?;
-            text::write_hex(&bytes, out)?;
-            out.push('\n')?;
-            self.sent.push(bytes)?;
+    // What was sent since is printed with its numbers, or why nothing was done.
+    fn report(&mut self, played: Played, out: &mut String) -> anyhow::Result<()> {
+        match played {
+            Ok(()) => Ok(self.print_sent(out)?),
+            Err(Setback::Fault(Fault::Refused(refusal))) => Ok(text::write_refusal(refusal, out)?),
+            Err(Setback::Fault(Fault::NoMemory) | Setback::Lost) => Err(anyhow!("out of memory")),
         }
+    }
+
+    fn print_sent(&mut self, out: &mut String) -> Result<(), AllocError> {
+        let sent = self.net.messages();
+        for (place, bytes) in sent.iter().enumerate().skip(self.printed) {
+            let number = place.saturating_add(1);
+            write!(out, "{number} ")?;
+            text::write_hex(bytes, out)?;
+            out.push('\n')?;
+        }
+        self.printed = sent.len();
         Ok(())
     }
 
@@ -42,61 +57,55 @@ impl Rehearsal {
         Ok(text::write_refusal(Refusal::Malformed, out)?)
     }
 
-    // What a house answers to this is reported.
-    fn at<F>(&mut self, house: House, act: F, out: &mut String) -> anyhow::Result<()>
-    where
-        F: FnOnce(&mut Store) -> Result<Answer, AllocError> + Drop,
-        requires { F.IsAlwaysCallable act }
-    {
-        let Some(store) = self.houses.get_mut(usize::from(house.0)) else {
-            return self.malformed(out);
+    // A house does what it is told. Bytes that come as digits may be anybody's.
+    fn follow(&mut self, house: House, order: Order, out: &mut String) -> anyhow::Result<()> {
+        let played = match order {
+            Order::Call(call) => self.net.call(house, call),
+            Order::Got(digits) => match text::read_hex(self.heap, digits)? {
+                Some(bytes) => self.net.forge(house, &bytes),
+                None => return self.malformed(out),
+            },
         };
-        let answer = act(store)?;
-        self.report(answer, out)
-    }
-
-    // These bytes come to a house.
-    fn got(&mut self, house: House, bytes: &[u8], out: &mut String) -> anyhow::Result<()> {
-        self.at(house, |store| Ok(store.got(bytes)), out)
-    }
-
-    // A copy of a message, counted from 1.
-    fn message(&self, number: u64) -> Result<Option<Vec<u8>>, AllocError> {
-        let place = number.checked_sub(1).map(usize::try_from);
-        match place {
-            Some(Ok(place)) => self.sent.get(place).map(|bytes| bytes.clone()).transpose(),
-            _ => Ok(None),
-        }
+        self.report(played, out)
     }
 
     fn deliver_at(&mut self, house: House, number: u64, out: &mut String) -> anyhow::Result<()> {
-        match self.message(number)? {
-            Some(bytes) => self.got(house, &bytes, out),
+        let Some(message) = place(number) else {
+            return self.malformed(out);
+        };
+        let played = self.net.deliver(house, message);
+        self.report(played, out)
+    }
+
+    // Whom a message is for.
+    fn recipient(&self, number: u64) -> Option<Recipient> {
+        let bytes = self.net.messages().get(place(number)?)?;
+        let read = wire::read(bytes, self.net.count()).ok()?;
+        Some(node::goes_to(read.message))
+    }
+
+    // A message comes to whom it is for, or to each house in order.
+    fn deliver(&mut self, number: u64, out: &mut String) -> anyhow::Result<()> {
+        match self.recipient(number) {
+            Some(Recipient::One(house)) => self.deliver_at(house, number, out),
+            Some(Recipient::Every) => {
+                for house in (0..self.net.count()).map(House) {
+                    self.deliver_at(house, number, out)?;
+                }
+                Ok(())
+            }
             None => self.malformed(out),
         }
     }
 
-    // A message comes to whom it is for.
-    fn deliver(&mut self, number: u64, out: &mut String) -> anyhow::Result<()> {
-        let Some(bytes) = self.message(number)? else {
-            return self.malformed(out);
-        };
-        // at most four, so it fits
-        let count = self.houses.len().min(4) as u8;
-        match wire::read(&bytes, count).map(|read| node::goes_to(read.message)) {
-            Ok(Recipient::One(house)) => self.got(house, &bytes, out),
-            Ok(Recipient::Every) => {
-                for house in (0..count).map(House) {
-                    self.got(house, &bytes, out)?;
-                }
-                Ok(())
-            }
-            Err(refusal) => Ok(text::write_refusal(refusal, out)?),
-        }
+    // The collector frees all that does not matter, and what it sent is printed.
+    fn settle(&mut self, out: &mut String) -> anyhow::Result<()> {
+        let played = self.net.settle();
+        self.report(played.map_err(Setback::from), out)
     }
 
     fn show(&self, out: &mut String) -> Result<(), AllocError> {
-        for (number, store) in self.houses.iter().enumerate() {
+        for (number, store) in self.net.houses().iter().enumerate() {
             let census = store.census();
             writeln!(out, "house {number} census {census}")?;
             for object in store.objects() {
@@ -136,13 +145,11 @@ impl Player for Rehearsal {
     fn answer(&mut self, line: &[u8], out: &mut String) -> anyhow::Result<()> {
         match text::read_play(line) {
             Ok(None) => Ok(()),
-            Ok(Some(Play::At(house, order))) => {
-                let heap = self.heap;
-                self.at(house, |store| console::follow(heap, store, order), out)
-            }
+            Ok(Some(Play::At(house, order))) => self.follow(house, order, out),
             Ok(Some(Play::DeliverAt(house, message))) => self.deliver_at(house, message, out),
             Ok(Some(Play::Deliver(message))) => self.deliver(message, out),
             Ok(Some(Play::Show)) => Ok(self.show(out)?),
+            Ok(Some(Play::Settle)) => self.settle(out),
             Err(refusal) => Ok(text::write_refusal(refusal, out)?),
         }
     }
@@ -156,17 +163,13 @@ fn empty(heap: Global, arguments: &[u64]) -> anyhow::Result<Option<Rehearsal>> {
     let Ok(count @ 1..=4) = u8::try_from(*count) else {
         return Ok(None);
     };
-    let mut houses = Vec::new(heap);
-    for house in (0..count).map(House) {
-        let Ok(store) = Store::new(heap, house, count) else {
-            return Err(anyhow!("out of memory"));
-        };
-        houses.push(store)?;
-    }
+    let Ok(net) = Net::new(heap, count) else {
+        return Err(anyhow!("out of memory"));
+    };
     Ok(Some(Rehearsal {
         heap,
-        houses,
-        sent: Vec::new(heap),
+        net,
+        printed: 0,
     }))
 }
 

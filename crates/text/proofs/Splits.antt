@@ -68,9 +68,6 @@ or_length s =
     let short = prefix_len-le-length (λ c. not (is_space c)) s in
     ⊎_elim (λ b. rw b) (λ b. rw b (omega (arith, ltb-false))) (cases_Bool (ltb (span s) (length s)))
 
-pub in_text : (s : List ℕ) → unwrap_or (position is_space s) (length s) ≤ length s
-in_text s = rw (or_length s) (prefix_len-le-length (λ c. not (is_space c)) s)
-
 module _ (t : List ℕ) where
   pub none_of : position (λ c. not (is_space c)) t ≡ None → words t ≡ []
   none_of e = ⊎_elim (λ b. absurd (search (e, b, rules))) (λ b. no_word t (spaces t) refl (omega (arith, ltb-false))) (cases_Bool (ltb (spaces t) (length t)))

@@ -50,12 +50,14 @@ pub data Played : Type 0 where
   deliver_at : House → ℕ → Played
   deliver : ℕ → Played
   show : Played
+  settle : Played
 
 abbrev pub played : Play → Played
 played (play.At h o) = at h (said o)
 played (play.DeliverAt h m) = deliver_at h m
 played (play.Deliver m) = deliver m
 played play.Show = show
+played play.Settle = settle
 
 -- by the first word of what is said at a house
 abbrev pub by_word_at_house : House → List ℕ → List (List ℕ) → Option Played
@@ -69,7 +71,8 @@ at_house h (w ∷ ws) = by_word_at_house h w ws
 abbrev pub by_word : List ℕ → List (List ℕ) → Option Played
 by_word w ws =
     cond (bytes_eq w (codes "show")) (cond (none ws) (Some show) None)
-    (cond (bytes_eq w (codes "deliver")) (option_map deliver (number_in ws)) (option_and_then (λ h. at_house h ws) (house_value w)))
+    (cond (bytes_eq w (codes "settle")) (cond (none ws) (Some settle) None)
+    (cond (bytes_eq w (codes "deliver")) (option_map deliver (number_in ws)) (option_and_then (λ h. at_house h ws) (house_value w))))
 
 abbrev pub play_said : Result (Option Play) Refusal → Result (Option Played) Refusal
 play_said (Err e) = Err e

@@ -24,6 +24,8 @@ pub enum Play<'a> {
     // it comes to whom it is for
     Deliver(u64),
     Show,
+    // the collector frees all that does not matter
+    Settle,
 }
 
 fn read_order<'a>(word: &'a [u8], rest: &'a [u8]) -> Option<Order<'a>>
@@ -77,6 +79,7 @@ fn by_word<'a>(word: &'a [u8], rest: &'a [u8]) -> Option<Play<'a>>
 {
     match word {
         b"show" => is_blank(rest).then_some(Play::Show),
+        b"settle" => is_blank(rest).then_some(Play::Settle),
         b"deliver" => Some(Play::Deliver(sole(rest)?)),
         _ => at_house(House::from_word(word)?, rest),
     }

@@ -1,0 +1,129 @@
+-- Parts of settling, one after the other.
+use Rattle.std.proofs.Common.{◌≡◌, ℕ, zero, suc, ◌+◌, ◌-◌, ◌<◌, ◌≤◌, Bool, true, false, cond, ◌&&◌, eqb, ltb, List, [], ◌∷◌, ◌++◌, map, length, get_or, Ok, Err, sym, refl, ap, ◌∙◌, subst, add-one, arith}
+use Rattle.std.proofs.lemmas.List.{append-nil, map-append}
+use Rattle.std.proofs.lemmas.Bool.{false≢true, lt-ltb, le-ltb, eq-eqb, ne_eqb, cond-true, cond-false}
+use Rattle.wire.specs.declared.refusal.Refusal.{Refusal}
+use Rattle.wire.specs.declared.refusal.Refusal.TheVariants.{Malformed}
+use Rattle.rules.specs.Step.{Event, Said, came, step, event_of}
+use Rattle.rules.proofs.Fairness.{always_fair}
+use Rattle.play.specs.Play.{World, Entry, calls, delivers, happens, written, play, answered, plays}
+use Rattle.play.specs.Settle.{below, delivery, deliveries, and_then, pump, each, pass, tallies, passes}
+use Rattle.play.proofs.FairEntries.{plays_append}
+use Rattle.net.proofs.Entered.{put_same, world_same}
+use Rattle.net.specs.Nets.{Played, count, world, Plays, is_lost, unless_refused}
+use Rattle.net.specs.Settling.{Script, Along, Rest}
+use Rattle.net.specs.declared.net.Net.{Net}
+use Rattle.objects.specs.declared.fault.Fault.TheVariants.{Refused, NoMemory}
+use Rattle.net.specs.declared.played.Setback.TheVariants.{Fault, Lost}
+
+happens_same : (i : ℕ) (e : Event) (w : World) (x : Refusal) → (step (w.house i) e).answer ≡ Err x → happens i e w ≡ w
+happens_same i e w x a =
+    world_same (put_same i (step (w.house i) e).house w.house ((always_fair (w.house i) e).unchanged x a)) (ap (λ (s : Said). w.sent ++ written s) a ∙ append-nil w.sent)
+
+tested : (b : Bool) (i : ℕ) (e : Event) (w : World) (x : Refusal) → cond b (step (w.house i) e).answer (Err Malformed) ≡ Err x → cond b (happens i e w) w ≡ w
+tested true i e w x a = happens_same i e w x a
+tested false i e w x a = refl
+
+refused_same : (n : ℕ) (e : Entry) (w : World) (x : Refusal) → answered n e w ≡ Err x → play n e w ≡ w
+refused_same n (calls i c) w x a = tested (ltb i n) i (event_of c) w x a
+refused_same n (delivers i m) w x a = tested (ltb i n && ltb m (length w.sent)) i (came (get_or w.sent m [])) w x a
+
+-- one entry
+went : (r : Played) (e : Entry) (t u : Net) → Plays r (count t) e (world t) (world u) → u.faithful ≡ cond (is_lost r) false t.faithful → count u ≡ count t → Along (unless_refused r) (λ n w. e ∷ []) t u
+went (Ok z) e t u p f k = record { houses = k; played = λ _. p.1; faithful = λ _. f }
+went (Err (Fault (Refused x))) e t u p f k = record { houses = k; played = λ _. p.1 ∙ sym (refused_same (count t) e (world t) x p.0); faithful = λ _. f }
+went (Err (Fault NoMemory)) e t u p f k = record { houses = k; played = λ z. absurd (false≢true z); faithful = λ _. f }
+went (Err Lost) e t u p f k = record { houses = k; played = λ z. absurd (false≢true z); faithful = λ z. absurd (false≢true z) }
+
+pub along_one : (b : Bool) (r : Played) (e : Entry) (t u : Net) → b ≡ unless_refused r → Plays r (count t) e (world t) (world u) → u.faithful ≡ cond (is_lost r) false t.faithful → count u ≡ count t → Along b (λ n w. e ∷ []) t u
+along_one b r e t u q p f k = subst (λ (x : Bool). Along x (λ n w. e ∷ []) t u) (sym q) (went r e t u p f k)
+
+-- the same entries, computed otherwise
+pub along_as : (r : Bool) (f g : Script) (t u : Net) → f (count t) (world t) ≡ g (count t) (world t) → Along r f t u → Along r g t u
+along_as r f g t u e a = record { houses = a.houses; played = λ z. a.played z ∙ ap (λ (es : List Entry). plays (count t) es (world t)) e; faithful = a.faithful }
+
+-- one part, and then another
+pub along_then : (r : Bool) (f g : Script) (t u v : Net) → Along true f t u → Along r g u v → Along r (λ n w. and_then n w (f n w) (λ x. g n x)) t v
+along_then r f g t u v a b =
+    record {
+      houses = b.houses ∙ a.houses;
+      played = λ z.
+          b.played z ∙ ap (λ (n : ℕ). plays n (g n (world u)) (world u)) a.houses ∙ ap (λ (x : World). plays (count t) (g (count t) x) x) (a.played refl)
+          ∙ sym (plays_append (count t) (f (count t) (world t)) (g (count t) (plays (count t) (f (count t) (world t)) (world t))) (world t));
+      faithful = λ z. b.faithful z ∙ a.faithful refl;
+    }
+
+-- where a later part breaks off, the houses are still so many
+pub along_off : (f g h : Script) (t u v : Net) → Along true f t u → Along false g u v → Along false h t v
+along_off f g h t u v a b = record { houses = b.houses ∙ a.houses; played = λ z. absurd (false≢true z); faithful = λ z. absurd (false≢true z) }
+
+-- the same at each house
+pub along_each : (f : ℕ → ℕ → World → List Entry) (i : ℕ) (t u v : Net) → Along true (λ n w. each n (f n) i w) t u → Along true (λ n w. f n i w) u v → Along true (λ n w. each n (f n) (i + 1) w) t v
+along_each f i t u v a b = subst (λ (k : ℕ). Along true (λ n w. each n (f n) k w) t v) (sym (add-one i)) (along_then true (λ n w. each n (f n) i w) (λ n w. f n i w) t u v a b)
+
+pub along_below : (m i : ℕ) (t u v : Net) → Along true (λ n w. map (delivery m) (below i)) t u → Along true (λ n w. delivers i m ∷ []) u v → Along true (λ n w. map (delivery m) (below (i + 1))) t v
+along_below m i t u v a b =
+    subst (λ (k : ℕ). Along true (λ n w. map (delivery m) (below k)) t v) (sym (add-one i))
+    (along_as true (λ n w. map (delivery m) (below i) ++ (delivers i m ∷ [])) (λ n w. map (delivery m) (below (suc i))) t v (sym (map-append (delivery m) (below i) (i ∷ [])))
+    (along_then true (λ n w. map (delivery m) (below i)) (λ n w. delivers i m ∷ []) t u v a b))
+
+-- what is left to play
+rest_as : (f g h : Script) (t u : Net) → g (count t) (world u) ≡ h (count t) (world u) → Rest f g t u → Rest f h t u
+rest_as f g h t u e r = record { houses = r.houses; left = r.left ∙ ap (λ (es : List Entry). plays (count t) es (world u)) e; faithful = r.faithful }
+
+pub rest_step : (f g a h : Script) (t u v : Net) → Rest f g t u → Along true a u v → g (count t) (world u) ≡ and_then (count t) (world u) (a (count t) (world u)) (λ x. h (count t) x) → Rest f h t v
+rest_step f g a h t u v r b eq =
+    record {
+      houses = b.houses ∙ r.houses;
+      left =
+          r.left ∙ ap (λ (es : List Entry). plays (count t) es (world u)) eq ∙ plays_append (count t) (a (count t) (world u)) (h (count t) (plays (count t) (a (count t) (world u)) (world u))) (world u)
+          ∙ ap (λ (x : World). plays (count t) (h (count t) x) x) (sym (b.played refl ∙ ap (λ (n : ℕ). plays n (a n (world u)) (world u)) r.houses));
+      faithful = b.faithful refl ∙ r.faithful;
+    }
+
+pub rest_end : (f g : Script) (t u : Net) → g (count t) (world u) ≡ [] → Rest f g t u → Along true f t u
+rest_end f g t u e r = record { houses = r.houses; played = λ _. sym (r.left ∙ ap (λ (es : List Entry). plays (count t) es (world u)) e); faithful = λ _. r.faithful }
+
+-- deliveries
+less : (j : ℕ) → j ≡ suc j - 1
+less j = omega arith
+
+pub pump_more : (k n m : ℕ) (w : World) → 0 < k → m < length w.sent → pump k n m w ≡ and_then n w (deliveries n m w) (λ v. pump (k - 1) n (m + 1) v)
+pump_more zero n m w lt ls = absurd (never lt)
+  where
+    never : 0 < 0 → ⊥
+    never q = omega arith
+pump_more (suc j) n m w lt ls =
+    cond-true (ltb m (length w.sent)) _ [] (lt-ltb m (length w.sent) ls) ∙ ap (λ (k : ℕ). and_then n w (deliveries n m w) (λ v. pump k n (m + 1) v)) (less j)
+
+pub pump_none : (k n m : ℕ) (w : World) → length w.sent ≤ m → pump k n m w ≡ []
+pump_none zero n m w le = refl
+pump_none (suc j) n m w le = cond-false (ltb m (length w.sent)) _ [] (le-ltb m (length w.sent) le)
+
+-- passes
+abbrev after : ℕ → World → Script
+after k w = λ n v. cond (eqb (tallies n v) (tallies n w)) [] (passes k n v)
+
+passes_more : (k n : ℕ) (w : World) → 0 < k → passes k n w ≡ and_then n w (pass n w) (λ v. after (k - 1) w n v)
+passes_more zero n w lt = absurd (never lt)
+  where
+    never : 0 < 0 → ⊥
+    never q = omega arith
+passes_more (suc j) n w lt = ap (λ (k : ℕ). and_then n w (pass n w) (λ v. after k w n v)) (less j)
+
+module _ (f : Script) (k : ℕ) (t u v : Net) (r : Rest f (λ n w. passes k n w) t u) (lt : 0 < k) (a : Along true (λ n w. pass n w) u v) where
+  passed : Rest f (after (k - 1) (world u)) t v
+  passed = rest_step f (λ n w. passes k n w) (λ n w. pass n w) (after (k - 1) (world u)) t u v r a (passes_more k (count t) (world u) lt)
+
+  module _ (x y : ℕ) (ex : x ≡ tallies (count u) (world u)) (ey : y ≡ tallies (count v) (world v)) where
+    tu : x ≡ tallies (count t) (world u)
+    tu = ex ∙ ap (λ (n : ℕ). tallies n (world u)) r.houses
+
+    tv : y ≡ tallies (count t) (world v)
+    tv = ey ∙ ap (λ (n : ℕ). tallies n (world v)) passed.houses
+
+    pub passes_end : y ≡ x → Along true f t v
+    passes_end d = rest_end f (after (k - 1) (world u)) t v (cond-true _ [] _ (eq-eqb _ _ (sym tv ∙ d ∙ tu))) passed
+
+    pub passes_on : (y ≡ x → ⊥) → Rest f (λ n w. passes (k - 1) n w) t v
+    passes_on d = rest_as f (after (k - 1) (world u)) (λ n w. passes (k - 1) n w) t v (cond-false _ [] _ (ne_eqb _ _ (λ z. d (tv ∙ z ∙ sym tu)))) passed

@@ -1,0 +1,32 @@
+use Rattle.std.proofs.Common.{rules, ◌≤◌}
+use Rattle.play.specs.Settle.{above}
+use Rattle.net.specs.Nets.{count, world}
+use Rattle.net.proofs.SettlingWhole.{keeps, above_in, whole}
+use Rattle.net.proofs.net.Net.settle.Goals as goal
+
+pub returns-then-above-from-clause-promise : goal.returns-then-above-from-clause-promise
+returns-then-above-from-clause-promise c = keeps c.args.self.now
+
+pub returns-in_err-words-clause-promise : goal.returns-in_err-words-clause-promise
+returns-in_err-words-clause-promise c = keeps c.words.new.self
+
+pub returns-in_err-join_all-clause-promise : goal.returns-in_err-join_all-clause-promise
+returns-in_err-join_all-clause-promise c = keeps c.join_all.new.self
+
+pub returns-in_err-complete-clause-promise : goal.returns-in_err-complete-clause-promise
+returns-in_err-complete-clause-promise c = keeps c.complete.new.self
+
+pub returns-in_err-calling_each-clause-promise : goal.returns-in_err-calling_each-clause-promise
+returns-in_err-calling_each-clause-promise c = keeps c.calling_each.new.self
+
+pub returns-clause-promise : goal.returns-clause-promise
+returns-clause-promise c = keeps c.calling_each.new.self
+
+pub returns-then-above-from-clause-ends : goal.returns-then-above-from-clause-ends
+returns-then-above-from-clause-ends c = search (above_in c.above.result c.args.self.now c.deref.result.now c.deref.ensures.value c.above.ensures, rules)
+
+pub returns-clause-ends : goal.returns-clause-ends
+returns-clause-ends c =
+    let t = c.args.self.now in
+    let le : above (count t) (world t) ≤ 4294967295 = search (above_in c.above.result t c.deref.result.now c.deref.ensures.value c.above.ensures, rules) in
+    whole t c.words.new.self c.join_all.new.self c.complete.new.self c.calling_each.new.self le c.in_ok-words.ensures c.in_ok-join_all.ensures c.in_ok-complete.ensures c.in_ok-calling_each.ensures
