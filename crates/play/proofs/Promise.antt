@@ -16,6 +16,7 @@ use Rattle.promise.specs.Promise as relation
 use Rattle.promise.specs.Rounds.{Ended, census_of, Runs}
 use Rattle.promise.specs.Rounds as promise
 use Rattle.promise.proofs.Ends.{rounds_main, rounds_true, rounds_still}
+use Rattle.promise.proofs.Called.{rounds_called}
 use Rattle.promise.proofs.Others.{rounds_stays, rounds_found, rounds_stamps, rounds_fresh, rounds_nothing}
 use Rattle.promise.proofs.Later.{turn_later}
 use Rattle.play.specs.Play.{World, Entry, play, cleaning}
@@ -115,6 +116,7 @@ safe n w some k =
       fresh = λ o a. (rounds_fresh n k.few (seen n w) k.runs).0 o a;
       once = λ i o e. (rounds_fresh n k.few (seen n w) k.runs).1 i o (truth e);
       truly = λ e. rounds_true n k.few (seen n w) k.runs (ended_by n w some e);
+      called = λ c bs m d. rounds_called n k.few (seen n w) k.runs c (msg_seen n w.sent bs (message.Complete (record { 0 = c })) (net.Sweep c) m d (Memᴰ.head refl));
       still = λ e all. rounds_still n k.few (seen n w) k.runs (ended_by n w some e) all;
       found = λ c m j o h. ⊎_elim (λ e. inl e) (λ e. inr (untruth e)) (rounds_found n c k.few (seen n w) k.runs m j o (has_seen n w h));
       stays = λ c m e all. way_stays c k.few k.runs m (way_play n e w k) all;

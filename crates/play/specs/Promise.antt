@@ -1,6 +1,7 @@
 -- What is promised of every play.
-use Rattle.std.specs.Prelude.{◌≡◌, ℕ, suc, ◌/◌, ◌<◌, ◌≤◌, true, ◌⊎◌, List, Ok}
+use Rattle.std.specs.Prelude.{◌≡◌, ℕ, ◌/◌, ◌<◌, ◌≤◌, true, ◌⊎◌, List, Ok}
 use mathlib.Core.List.{Memᴰ}
+use Rattle.wire.specs.declared.message.Message.TheVariants as message
 use Rattle.wire.specs.declared.message.Message.TheVariants.{Give}
 use Rattle.wire.specs.Names.{home, house, name}
 use Rattle.wire.specs.Format.{decode}
@@ -12,9 +13,7 @@ use Rattle.rules.specs.House.{census}
 use Rattle.rules.specs.Sound.{Sound}
 use Rattle.promise.specs.House.{count_of}
 use Rattle.promise.specs.Net as net
-use Rattle.promise.specs.Promise.{Anywhere}
-use Rattle.promise.specs.Rounds.{census_of, Runs, Later}
-use Rattle.promise.specs.Rounds as promise
+use Rattle.promise.specs.Promise.{Anywhere, WasComplete, Called}
 use Rattle.play.specs.Play.{World, Entry, play, cleaning, Reach}
 use Rattle.play.specs.Seen.{seen}
 
@@ -49,8 +48,9 @@ pub record Safe (n : ℕ) (w : World) : Type 0 where
   -- an object is at home, and once
   pub once : (i o : ℕ) → present o (w.house i).heap.objects ≡ true → (home o ≡ i) × (count_of o (w.house i).heap.objects ≡ 1)
   -- a census that two rounds found complete was complete at the moment when the second was begun
-  pub truly : agreed n (w.house 0).desk ≡ true →
-      (v : promise.World) × Runs n v × Later n v (seen n w) × (census_of v 0 ≡ census (w.house 0)) × (suc v.desk.round ≡ (w.house 0).desk.round) × net.Complete n (census (w.house 0)) v.net
+  pub truly : agreed n (w.house 0).desk ≡ true → WasComplete n (seen n w)
+  -- and so was every census of which the news is among the messages that it is complete, however old
+  pub called : (c : ℕ) (bs : List ℕ) → Memᴰ bs w.sent → decode n bs ≡ Ok (message.Complete (record { 0 = c })) → Called n c (seen n w)
   -- and it still is, if no house has joined another
   pub still : agreed n (w.house 0).desk ≡ true → ((i : ℕ) → i < n → census (w.house i) ≡ census (w.house 0)) → Complete n (census (w.house 0)) w
   -- in a complete census all that matters was found in use
