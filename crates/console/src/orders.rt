@@ -1,10 +1,9 @@
-ghost use Rattle.std.specs.Prelude.{◌≡◌, string_bytes, IfOk, OnErr};
+ghost use Rattle.std.specs.Prelude.{◌≡◌, true, string_bytes, IfOk, OnErr};
 ghost use Rattle.text.specs.Lines.{said};
 ghost use Rattle.store.specs.Sending.{contents};
 ghost use Rattle.store.specs.Stores.{house_in};
-ghost use Rattle.console.specs.Orders.{event_in, Follows, Shows};
+ghost use Rattle.console.specs.Orders.{event_in, spells, Follows, Shows};
 
-use anyhow::anyhow;
 use node::Answer;
 use objects::Fault;
 use std::alloc::{AllocError, Global};
@@ -12,10 +11,11 @@ use store::Store;
 use text::Order;
 use wire::Refusal;
 
-// A house does what it is told.
+// A house does what it is told. Memory for that is wanted only to spell out bytes.
 pub fn follow(heap: Global, store: &mut Store, order: Order<'_>) -> Result<Answer, AllocError>
     ensures step { IfOk result (λ a. Follows a (event_in (said order.entry)) (house_in store.old) (house_in store.new)) }
     ensures kept { OnErr result (house_in store.new ≡ house_in store.old) }
+    ensures asks { OnErr result (spells (said order.entry) ≡ true) }
 {
     match order {
         Order::Call(call) => Ok(store.call(call)),
@@ -36,6 +36,6 @@ pub fn messages(heap: Global, answer: Answer, out: &mut String) -> anyhow::Resul
             text::write_refusal(refusal, out)?;
             Ok(Vec::new(heap))
         }
-        Err(Fault::NoMemory) => Err(anyhow!("out of memory")),
+        Err(Fault::NoMemory) => Err(AllocError.into()),
     }
 }

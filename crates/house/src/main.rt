@@ -3,7 +3,8 @@
 #![tactic(auto)]
 
 use console::Player;
-use std::alloc::Global;
+use objects::Fault;
+use std::alloc::{AllocError, Global};
 use std::process::ExitCode;
 use store::Store;
 use wire::House;
@@ -35,14 +36,19 @@ impl Player for Own {
     }
 }
 
-// The house that the arguments name.
-fn named(heap: Global, arguments: &[u64]) -> Option<Store> {
+// The house that the arguments name, if they name one.
+fn named(heap: Global, arguments: &[u64]) -> Result<Option<Store>, AllocError> {
     let [own, houses] = arguments else {
-        return None;
+        return Ok(None);
     };
-    let own = u8::try_from(*own).ok()?;
-    let houses = u8::try_from(*houses).ok()?;
-    Store::new(heap, House(own), houses).ok()
+    let (Ok(own), Ok(houses)) = (u8::try_from(*own), u8::try_from(*houses)) else {
+        return Ok(None);
+    };
+    match Store::new(heap, House(own), houses) {
+        Ok(store) => Ok(Some(store)),
+        Err(Fault::Refused(_)) => Ok(None),
+        Err(Fault::NoMemory) => Err(AllocError),
+    }
 }
 
 fn main(rt: HostRuntime) -> anyhow::Result<ExitCode> {
@@ -50,7 +56,7 @@ fn main(rt: HostRuntime) -> anyhow::Result<ExitCode> {
     let Some(arguments) = console::arguments(&rt)? else {
         return console::wrong_arguments(&rt, USAGE);
     };
-    let Some(store) = named(heap, &arguments) else {
+    let Some(store) = named(heap, &arguments)? else {
         return console::wrong_arguments(&rt, USAGE);
     };
     let mut player = Own { heap, store };

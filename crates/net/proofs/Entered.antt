@@ -1,5 +1,5 @@
 -- What becomes of the world of a net by one entry, and that it stays one that entries lead to.
-use Rattle.std.proofs.Common.{◌≡◌, ℕ, ◌<◌, ◌≤◌, Bool, true, false, cond, ◌&&◌, eqb, ltb, List, [], ◌++◌, length, get_or, is_ok, Ok, Err, vec_items, Vec, sym, refl, ap, ◌∙◌, subst}
+use Rattle.std.proofs.Common.{rules, ◌≡◌, ℕ, ◌<◌, ◌≤◌, Bool, true, false, cond, ◌&&◌, eqb, ltb, List, [], ◌∷◌, ◌++◌, length, get_or, is_ok, Ok, Err, vec_items, Vec, sym, refl, ap, ◌∙◌, subst}
 use mathlib.Core.Path.{fun_ext}
 use mathlib.Core.Logic.{∥∥₁_map}
 use Rattle.std.proofs.lemmas.Bool.{cond-true, eqb-true, false≢true, lt-ltb, and_from}
@@ -9,10 +9,10 @@ use Rattle.std.proofs.lemmas.List.{with_items_is}
 use Rattle.wire.specs.declared.call.Call.{Call}
 use Rattle.wire.specs.declared.refusal.Refusal.TheVariants.{Malformed}
 use Rattle.rules.specs.House.{House}
-use Rattle.rules.specs.Step.{Event, Outcome, Said, came, step, event_of}
+use Rattle.rules.specs.Step.{Event, Outcome, Letter, Said, came, step, event_of}
 use Rattle.rules.proofs.Fairness.{always_fair}
 use Rattle.objects.specs.declared.fault.Fault.TheVariants.{Refused, NoMemory}
-use Rattle.node.specs.Shown.{Answer, Answers, allocates}
+use Rattle.node.specs.Shown.{Answer, Answers, letters, allocates}
 use Rattle.store.specs.declared.table.Store.{Store}
 use Rattle.store.specs.Sending.{contents}
 use Rattle.play.specs.Play.{World, Entry, calls, delivers, put, happens, written, play, answered, Reach, more}
@@ -53,9 +53,13 @@ module _ (i : ℕ) (e : Event) (f g : ℕ → House) (others : g ≡ put i (g i)
       (q.0, world_same (others ∙ put_same i (g i) f q.1) p.1)
   acts (Err Lost) a d p =
       let q : Answers (Ok p.0) e (f i) (g i) = subst (λ (x : Answer). Answers x e (f i) (g i)) p.1 d in (
-        ap (λ (x : Outcome). is_ok x.answer) q,
-        world_same (others ∙ ap (λ (x : Outcome). put i x.house f) (sym q)) p.2,
+        λ z. p.2 (none (letters p.0) (ap (λ (x : Outcome). written x.answer) (sym q) ∙ z)),
+        world_same (others ∙ ap (λ (x : Outcome). put i x.house f) (sym q)) p.3,
       )
+    where
+      none : (ls : List Letter) → written (Ok ls) ≡ [] → ls ≡ []
+      none [] z = refl
+      none (l ∷ ls) z = absurd (search (z, rules))
 
 -- an entry is this event at this house
 abbrev pub Is : ℕ → Entry → ℕ → Event → World → Type 0
@@ -65,7 +69,7 @@ played_by : (r : Played) (n i : ℕ) (e : Event) (x : Entry) (w v : World) → I
 played_by (Ok u) n i e x w v is p = (ap (λ (a : Said). is_ok a) is.1 ∙ p.0, p.1 ∙ sym is.0)
 played_by (Err (Fault (Refused y))) n i e x w v is p = (is.1 ∙ p.0, p.1)
 played_by (Err (Fault NoMemory)) n i e x w v is p = (is.2 ∙ p.0, p.1)
-played_by (Err Lost) n i e x w v is p = (ap (λ (a : Said). is_ok a) is.1 ∙ p.0, p.1 ∙ ap (unsent w) (sym is.0))
+played_by (Err Lost) n i e x w v is p = (λ z. p.0 (ap written (sym is.1) ∙ z), p.1 ∙ ap (unsent w) (sym is.0))
 
 pub is_call : (n i : ℕ) (c : Call) (w : World) → i < n → Is n (calls i c) i (event_of c) w
 is_call n i c w lt = (cond-true (ltb i n) _ w (lt-ltb i n lt), cond-true (ltb i n) _ (Err Malformed) (lt-ltb i n lt), cond-true (ltb i n) (allocates (event_of c) (w.house i)) false (lt-ltb i n lt))

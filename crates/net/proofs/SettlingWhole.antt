@@ -1,5 +1,5 @@
 -- The whole of settling: what it leaves is exactly what matters.
-use Rattle.std.proofs.Common.{◌≡◌, ℕ, ◌≤◌, Bool, true, List, [], length, vec_items, sym, refl, ap, ◌∙◌, subst}
+use Rattle.std.proofs.Common.{◌≡◌, ℕ, ◌+◌, ◌≤◌, Bool, true, false, List, [], length, vec_items, sym, refl, ap, ◌∙◌, subst}
 use mathlib.Core.Logic.{∥∥₁_map}
 use Rattle.wire.specs.declared.call.Call.TheVariants as call
 use Rattle.store.specs.declared.table.Store.{Store}
@@ -8,12 +8,14 @@ use Rattle.play.specs.Play.{World}
 use Rattle.play.specs.Settle.{and_then, calling, each, words, above, tallies, joins, completing, collects, settling}
 use Rattle.play.specs.Exact.{Settles}
 use Rattle.play.proofs.Exactness.{always_settles}
+use Rattle.play.proofs.Bounds.{bounded}
+use Rattle.play.specs.Bound.{line_count, most}
 use Rattle.net.specs.Worlds.{world_of}
 use Rattle.net.specs.Nets.{count, world, Promised}
-use Rattle.net.specs.Settling.{Along, Whole}
+use Rattle.net.specs.Settling.{Script, Along, Whole}
 use Rattle.net.specs.declared.net.Net.{Net}
 use Rattle.net.proofs.Entered.{promised}
-use Rattle.net.proofs.SettlingParts.{along_then, along_as}
+use Rattle.net.proofs.SettlingParts.{along_then, along_front, along_as}
 use Rattle.net.proofs.SettlingReads.{above_sent, tallies_sent, above_left}
 
 -- a net keeps the promise by itself
@@ -30,21 +32,38 @@ tallies_in k t xs ex e = e ∙ ap (λ (ys : List Store). tallies (length ys) (wo
 pub along_joins : (r : Bool) (k : ℕ) (t u : Net) → k ≡ above (count t) (world t) → Along r (λ n w. each n (λ i v. calling n i (call.Join k) v) n w) t u → Along r (λ n w. joins n (above n w) w) t u
 along_joins r k t u e a = along_as r (λ n w. joins n k w) (λ n w. joins n (above n w) w) t u (ap (λ (j : ℕ). joins (count t) j (world t)) e) a
 
--- each part was played
-module _ (t a b c d : Net) (le : above (count t) (world t) ≤ 4294967295) (words-said : Along true (λ n w. words n w) t a) (all_joined : Along true (λ n w. joins n (above n w) w) a b)
-    (all_told : Along true (λ n w. completing n w) b c) (all-collected : Along true (λ n w. collects n w) c d) where
-  entries : Along true (λ n w. settling n w) t d
-  entries =
-      along_then true (λ n w. words n w) (λ n v. and_then n v (joins n (above n v) v) (λ u. and_then n u (completing n u) (λ x. collects n x))) t a d words-said
-      (along_then true (λ n v. joins n (above n v) v) (λ n u. and_then n u (completing n u) (λ x. collects n x)) a b d all_joined
-      (along_then true (λ n u. completing n u) (λ n x. collects n x) b c d all_told all-collected))
+-- joins and what follows, the census and what follows
+abbrev pub from_census : Script
+from_census n w = and_then n w (completing n w) (λ x. collects n x)
 
-  pub whole : Whole t d
-  whole =
-      record {
-        played = entries.played refl;
-        faithful = entries.faithful refl;
-        exact = λ f.
-            subst (λ (x : World). ∥ Settles (count t) (world t) x ∥₁) (sym (entries.played refl))
-            (∥∥₁_map (t.reached f) (λ z. always_settles (count t) t.some t.few (world t) z (above_left (count t) (world t) 4294967295 le)));
-      }
+abbrev pub from_joins : Script
+from_joins n w = and_then n w (joins n (above n w) w) (λ u. from_census n u)
+
+-- each part was played
+module _ (r : Bool) (t a b c d : Net) (words-said : Along true (λ n w. words n w) t a) (all_joined : Along true (λ n w. joins n (above n w) w) a b) where
+  pub entries : Along true (λ n w. completing n w) b c → Along r (λ n w. collects n w) c d → Along r (λ n w. settling n w) t d
+  entries all_told all-collected =
+      along_then r (λ n w. words n w) from_joins t a d words-said (along_then r (λ n v. joins n (above n v) v) from_census a b d all_joined (along_then r (λ n u. completing n u) (λ n x. collects n x) b c d all_told all-collected))
+
+  pub not_told : Along false (λ n w. completing n w) b c → Along false (λ n w. settling n w) t c
+  not_told off =
+      along_then false (λ n w. words n w) from_joins t a c words-said (along_then false (λ n v. joins n (above n v) v) from_census a b c all_joined (along_front (λ n u. completing n u) (λ n x. collects n x) b c off))
+
+pub not_joined : (t a b : Net) → Along true (λ n w. words n w) t a → Along false (λ n w. joins n (above n w) w) a b → Along false (λ n w. settling n w) t b
+not_joined t a b words-said off = along_then false (λ n w. words n w) from_joins t a b words-said (along_front (λ n v. joins n (above n v) v) from_census a b off)
+
+pub not_said : (t a : Net) → Along false (λ n w. words n w) t a → Along false (λ n w. settling n w) t a
+not_said t a off = along_front (λ n w. words n w) from_joins t a off
+
+pub whole : (t d : Net) → above (count t) (world t) ≤ 4294967295 → Along true (λ n w. settling n w) t d → Whole t d
+whole t d le a =
+    record {
+      played = a.played refl;
+      faithful = a.faithful refl;
+      exact = λ f.
+          subst (λ (x : World). ∥ Settles (count t) (world t) x ∥₁) (sym (a.played refl))
+          (∥∥₁_map (t.reached f) (λ z. always_settles (count t) t.some t.few (world t) z (above_left (count t) (world t) 4294967295 le)));
+      bounded = λ f.
+          subst (λ (x : World). ∥ length x.sent ≤ length (world t).sent + most (count t) (line_count (count t) (world t)) ∥₁) (sym (a.played refl))
+          (∥∥₁_map (t.reached f) (λ z. bounded (count t) t.some t.few (world t) z (above_left (count t) (world t) 4294967295 le)));
+    }

@@ -1,12 +1,12 @@
 -- What a net stands for, and what its answers say.
-use Rattle.std.specs.Prelude.{◌≡◌, ℕ, ◌<◌, ◌≤◌, Bool, true, false, cond, ◌&&◌, ◌||◌, List, [], length, is_ok, Ok, Err, vec_items, Result, ◌==◌, nat_lt, slice_index_or}
+use Rattle.std.specs.Prelude.{◌≡◌, ℕ, ◌<◌, ◌≤◌, Bool, true, false, cond, ◌&&◌, ◌||◌, List, [], length, is_ok, Ok, Err, vec_items, Result, ◌==◌, nat_lt, slice_index_or, ◌≢◌}
 use Rattle.objects.specs.declared.fault.Fault as objects
 use Rattle.objects.specs.declared.fault.Fault.TheVariants.{Refused, NoMemory}
 use Rattle.store.specs.Sending.{contents}
 use Rattle.wire.specs.declared.refusal.Refusal.TheVariants.{Malformed}
 use Rattle.rules.specs.Step.{Event, came, step, event_of}
 use Rattle.node.specs.Shown.{allocates}
-use Rattle.play.specs.Play.{World, Entry, calls, delivers, begin, happens, play, answered}
+use Rattle.play.specs.Play.{World, Entry, calls, delivers, begin, written, happens, play, answered}
 use Rattle.play.specs.Promise.{Safe}
 use Rattle.net.specs.Worlds.{world_of}
 use Rattle.net.specs.declared.net.Net.{Net}
@@ -19,6 +19,10 @@ count t = length (vec_items t.houses)
 
 abbrev pub world : Net → World
 world t = world_of (vec_items t.houses) (contents t.sent)
+
+-- nobody has forged a message, and none was lost for want of memory
+abbrev pub faithful : Net → Bool
+faithful t = t.faithful
 
 -- an entry that asks for memory: only those that list references do, at a house that is there
 abbrev pub wanting : ℕ → Entry → World → Bool
@@ -33,12 +37,12 @@ Played = Result (Unit {0}) Setback
 abbrev pub unsent : World → World → World
 unsent w v = record { house = v.house; sent = w.sent }
 
--- an entry, as it was answered: it was played, or nothing was changed, or the house did its step and nothing that it sent was kept
+-- an entry, as it was answered: it was played, or nothing was changed, or the house did a step that sends, and nothing that it sent was kept
 abbrev pub Plays : Played → ℕ → Entry → World → World → Type 0
 Plays (Ok u) n e w v = (is_ok (answered n e w) ≡ true) × (v ≡ play n e w)
 Plays (Err (Fault (Refused x))) n e w v = (answered n e w ≡ Err x) × (v ≡ w)
 Plays (Err (Fault NoMemory)) n e w v = (wanting n e w ≡ true) × (v ≡ w)
-Plays (Err Lost) n e w v = (is_ok (answered n e w) ≡ true) × (v ≡ unsent w (play n e w))
+Plays (Err Lost) n e w v = (written (answered n e w) ≢ []) × (v ≡ unsent w (play n e w))
 
 -- messages that were sent are lost to the net for want of memory
 abbrev pub is_lost : Played → Bool
@@ -47,22 +51,22 @@ is_lost (Err (Fault f)) = false
 is_lost (Err Lost) = true
 
 -- it was played or refused: there was memory for it
-abbrev pub unless_refused : Played → Bool
-unless_refused (Ok u) = true
-unless_refused (Err (Fault (Refused x))) = true
-unless_refused (Err (Fault NoMemory)) = false
-unless_refused (Err Lost) = false
+abbrev pub had_memory : Played → Bool
+had_memory (Ok u) = true
+had_memory (Err (Fault (Refused x))) = true
+had_memory (Err (Fault NoMemory)) = false
+had_memory (Err Lost) = false
 
 -- THE PROMISE, as long as all that happened was played
 abbrev pub Promised : Net → Type 0
-Promised t = t.faithful ≡ true → ∥ Safe (count t) (world t) ∥₁
+Promised t = faithful t ≡ true → ∥ Safe (count t) (world t) ∥₁
 
 -- bytes that anybody wrote came to a house
 abbrev pub Acts : Played → ℕ → Event → World → World → Type 0
 Acts (Ok u) i e w v = (is_ok (step (w.house i) e).answer ≡ true) × (v ≡ happens i e w)
 Acts (Err (Fault (Refused x))) i e w v = ((step (w.house i) e).answer ≡ Err x) × (v ≡ w)
 Acts (Err (Fault NoMemory)) i e w v = (allocates e (w.house i) ≡ true) × (v ≡ w)
-Acts (Err Lost) i e w v = (is_ok (step (w.house i) e).answer ≡ true) × (v ≡ unsent w (happens i e w))
+Acts (Err Lost) i e w v = (written (step (w.house i) e).answer ≢ []) × (v ≡ unsent w (happens i e w))
 
 abbrev pub Forges : Played → ℕ → ℕ → List ℕ → World → World → Type 0
 Forges r n i bs w v = (i < n → Acts r i (came bs) w v) × (n ≤ i → (r ≡ Err (Fault (Refused Malformed))) × (v ≡ w))
@@ -71,7 +75,7 @@ Forges r n i bs w v = (i < n → Acts r i (came bs) w v) × (n ≤ i → (r ≡ 
 pub record Begun (n : ℕ) (t : Net) : Type 0 where
   pub count : count t ≡ n
   pub world : world t ≡ begin n
-  pub faithful : t.faithful ≡ true
+  pub faithful : faithful t ≡ true
 
 -- why there is none: no houses or too many of them, or else want of memory
 abbrev pub Unbegun : ℕ → objects.Fault → Type 0

@@ -1,5 +1,5 @@
 -- What becomes of an answer.
-use Rattle.std.specs.Prelude.{◌≡◌, ℕ, ◌++◌, map, Ok, Err, Vec}
+use Rattle.std.specs.Prelude.{◌≡◌, ℕ, [], ◌++◌, map, Ok, Err, Vec, ◌≢◌}
 use Rattle.std.specs.declared.alloc.Global.{Global}
 use Rattle.node.specs.declared.sent.Sent.{Sent}
 use Rattle.node.specs.Shown.{Answer, letters}
@@ -10,4 +10,4 @@ use Rattle.net.specs.Nets.{Played}
 abbrev pub Posted : Played → Answer → Vec (Vec ℕ Global) Global → Vec (Vec ℕ Global) Global → Type 0
 Posted (Ok u) a before after = (s : Sent) × (a ≡ Ok s) × (contents after ≡ contents before ++ map bytes_of (letters s))
 Posted (Err (Fault f)) a before after = (a ≡ Err f) × (contents after ≡ contents before)
-Posted (Err Lost) a before after = (s : Sent) × (a ≡ Ok s) × (contents after ≡ contents before)
+Posted (Err Lost) a before after = (s : Sent) × (a ≡ Ok s) × (letters s ≢ []) × (contents after ≡ contents before)

@@ -3,7 +3,7 @@ ghost use Rattle.node.specs.Shown.{Answers};
 ghost use Rattle.store.specs.Events.{event_in};
 ghost use Rattle.play.specs.Play.{put, calls, delivers};
 ghost use Rattle.net.specs.Worlds.{houses_of};
-ghost use Rattle.net.specs.Nets.{count, world, Plays, Forges, is_lost, Promised};
+ghost use Rattle.net.specs.Nets.{count, world, faithful, Plays, Forges, is_lost, Promised};
 
 use crate::net::Net;
 use crate::played::{Played, still};
@@ -26,7 +26,7 @@ impl Net {
     // A call at a house.
     pub fn call(&mut self, house: House, call: Call) -> Played
         ensures plays { Plays result (count self.old) (calls house.0 call) (world self.old) (world self.new) }
-        ensures faithful { self.new.faithful ≡ (if is_lost result then false else self.old.faithful) }
+        ensures faithful { faithful self.new ≡ (if is_lost result then false else faithful self.old) }
         ensures count { count self.new ≡ count self.old }
         ensures promise { Promised self.new }
     {
@@ -43,7 +43,7 @@ impl Net {
     // Message number `message`, counted from 0, comes to a house: at any time, any number of times.
     pub fn deliver(&mut self, house: House, message: usize) -> Played
         ensures plays { Plays result (count self.old) (delivers house.0 message) (world self.old) (world self.new) }
-        ensures faithful { self.new.faithful ≡ (if is_lost result then false else self.old.faithful) }
+        ensures faithful { faithful self.new ≡ (if is_lost result then false else faithful self.old) }
         ensures count { count self.new ≡ count self.old }
         ensures promise { Promised self.new }
     {
@@ -59,7 +59,7 @@ impl Net {
 
     // These bytes come to a house, whoever wrote them: from now on nothing is promised of the net, since a forged message may say anything.
     pub fn forge(&mut self, house: House, bytes: &[u8]) -> Played
-        ensures faithful { self.new.faithful ≡ false }
+        ensures faithful { faithful self.new ≡ false }
         ensures count { count self.new ≡ count self.old }
         ensures acts { Forges result (count self.old) house.0 bytes.now (world self.old) (world self.new) }
     {

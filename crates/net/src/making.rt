@@ -1,4 +1,5 @@
-ghost use Rattle.std.specs.Prelude.{◌≡◌, ◌≤◌, map, IfOk, MatchResult};
+ghost use Rattle.std.specs.Prelude.{◌≡◌, ◌≤◌, map, MatchResult};
+ghost use Rattle.objects.specs.declared.fault.Fault.TheVariants.{NoMemory};
 ghost use Rattle.store.specs.Stores.{house_in};
 ghost use Rattle.net.specs.Rows.{empties};
 ghost use Rattle.net.specs.Laws.{Lawful};
@@ -13,14 +14,11 @@ use wire::{House, Refusal};
 // So many houses with nothing in them.
 fn row(heap: Global, count: u8) -> Result<Vec<Store>, Fault>
     requires { count ≤ 16 }
-    ensures { IfOk result (λ v. map house_in v.items ≡ empties count count) }
+    ensures { MatchResult result (λ v. map house_in v.items ≡ empties count count) (λ e. e ≡ NoMemory) }
 {
-    let mut houses = Vec::new(heap);
+    let mut houses = Vec::with_capacity(heap, usize::from(count))?;
     for house in 0..count {
-        let store = Store::new(heap, House(house), count)?;
-        if houses.push(store).is_err() {
-            return Err(Fault::NoMemory);
-        }
+        houses.push_reserved(Store::new(heap, House(house), count)?);
     }
     Ok(houses)
 }
@@ -34,10 +32,7 @@ impl Net {
         if !(1..=16).contains(&count) {
             return Err(Refusal::Malformed.into());
         }
-        // the number of no house is refused, so what `row` lacks is memory
-        let Ok(houses) = row(heap, count) else {
-            return Err(Fault::NoMemory);
-        };
+        let houses = row(heap, count)?;
         Ok(Net {
             heap,
             houses,

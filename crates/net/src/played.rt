@@ -1,5 +1,5 @@
 ghost use Rattle.std.specs.Prelude.{◌≡◌, false, is_ok, if◌then◌else◌};
-ghost use Rattle.net.specs.Nets.{is_lost, unless_refused};
+ghost use Rattle.net.specs.Nets.{is_lost, had_memory};
 ghost use Rattle.net.specs.declared.played.Setback.TheVariants as setback;
 ghost use Rattle.objects.specs.declared.fault.Fault.TheVariants as fault;
 
@@ -43,8 +43,8 @@ pub(crate) fn still(faithful: bool, played: Played) -> bool
 }
 
 // A refusal is no reason to break off what many entries do together; want of memory is.
-pub(crate) fn unless_refused(played: Played) -> Result<(), AllocError>
-    ensures { is_ok result ≡ unless_refused played }
+pub(crate) fn with_memory(played: Played) -> Result<(), AllocError>
+    ensures { is_ok result ≡ had_memory played }
 {
     match played {
         Ok(()) | Err(Setback::Fault(Fault::Refused(_))) => Ok(()),

@@ -1,4 +1,4 @@
-ghost use Rattle.std.specs.Prelude.{◌≡◌, ◌++◌, map, is_ok, if◌then◌else◌};
+ghost use Rattle.std.specs.Prelude.{◌≡◌, [], ◌++◌, map, is_ok, OnErr, if◌then◌else◌};
 ghost use Rattle.node.specs.Shown.{letters};
 ghost use Rattle.store.specs.Sending.{bytes_of, contents};
 ghost use Rattle.net.specs.Posted.{Posted};
@@ -9,7 +9,8 @@ use std::alloc::{AllocError, Global};
 
 // What a house sent comes after all that was sent before: all of it, or nothing where memory is wanting.
 fn post(heap: Global, said: &Sent, sent: &mut Vec<Vec<u8>>) -> Result<(), AllocError>
-    ensures { contents sent.new ≡ (if is_ok result then contents sent.old ++ map bytes_of (letters said.now) else contents sent.old) }
+    ensures kept { contents sent.new ≡ (if is_ok result then contents sent.old ++ map bytes_of (letters said.now) else contents sent.old) }
+    ensures asks { OnErr result (letters said.now ≡ [] → ⊥) }
 {
     let mut new = store::messages(heap, said)?;
     sent.append(&mut new)
@@ -20,8 +21,5 @@ pub(crate) fn keep(heap: Global, answer: Answer, sent: &mut Vec<Vec<u8>>) -> Pla
     ensures { Posted result answer sent.old sent.new }
 {
     let said = answer?;
-    match post(heap, &said, sent) {
-        Ok(()) => Ok(()),
-        Err(_) => Err(Setback::Lost),
-    }
+    post(heap, &said, sent).map_err(|_| Setback::Lost)
 }

@@ -7,31 +7,14 @@ ghost use Rattle.net.specs.Nets.{count, world};
 ghost use Rattle.net.specs.Settling.{Along, receivers};
 
 use crate::net::Net;
-use crate::played::unless_refused;
+use crate::played::with_memory;
 use node::Recipient;
 use std::alloc::AllocError;
 use wire::{Call, House};
 
-// Whom message number `message` is for, if it can be read.
-fn recipient(sent: &[Vec<u8>], message: usize, houses: u8) -> Option<Recipient>
-    requires { message < length sent.now }
-    ensures { receivers houses result ≡ goes_to houses (decode houses (slice_index_or (map items_in sent.now) message [])) }
-{
-    let read = wire::read(&sent[message], houses).ok()?;
-    Some(node::goes_to(read.message))
-}
-
 impl Net {
-    // How many houses there are.
-    pub fn count(&self) -> u8
-        ensures { result ≡ count self.now }
-    {
-        // at most sixteen, so it fits
-        self.houses.len() as u8
-    }
-
     // How many messages were sent.
-    fn sent(&self) -> usize
+    fn message_count(&self) -> usize
         ensures { result ≡ length (world self.now).sent }
     {
         self.sent.len()
@@ -40,13 +23,13 @@ impl Net {
     fn calls(&mut self, house: House, call: Call) -> Result<(), AllocError>
         ensures { Along (is_ok result) (λ n w. calls house.0 call ∷ []) self.old self.new }
     {
-        unless_refused(self.call(house, call))
+        with_memory(self.call(house, call))
     }
 
     fn delivers(&mut self, house: House, message: usize) -> Result<(), AllocError>
         ensures { Along (is_ok result) (λ n w. delivers house.0 message ∷ []) self.old self.new }
     {
-        unless_refused(self.deliver(house, message))
+        with_memory(self.deliver(house, message))
     }
 
     // A message comes to each house in order.
@@ -61,10 +44,9 @@ impl Net {
 
     // A message comes to whom it is for.
     fn deliver_message(&mut self, message: usize) -> Result<(), AllocError>
-        requires { message < length (world self.old).sent }
         ensures { Along (is_ok result) (λ n w. deliveries n message w) self.old self.new }
     {
-        match recipient(&self.sent, message, self.count()) {
+        match self.recipient(message) {
             None => Ok(()),
             Some(Recipient::One(house)) => self.delivers(house, message),
             Some(Recipient::Every) => self.deliver_each(message),
@@ -77,7 +59,7 @@ impl Net {
     {
         let mut next = from;
         let mut left = most;
-        while left > 0 && next < self.sent() {
+        while left > 0 && next < self.message_count() {
             self.deliver_message(next)?;
             next += 1;
             left -= 1;
@@ -89,10 +71,11 @@ impl Net {
     pub(crate) fn calling(&mut self, house: House, call: Call) -> Result<(), AllocError>
         ensures { Along (is_ok result) (λ n w. calling n house.0 call w) self.old self.new }
     {
-        let before = self.sent();
+        let before = self.message_count();
         self.calls(house, call)?;
-        let new = self.sent().saturating_sub(before);
-        let most = 2 * (new as u128) + u128::from(self.count()) + 2;
+        // messages only become more; and the sum is held to no bound of a usize
+        let new = self.message_count().saturating_sub(before) as u128;
+        let most = 2 * new + u128::from(self.count()) + 2;
         self.pump(before, most)
     }
 

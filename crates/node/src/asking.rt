@@ -8,7 +8,7 @@ use crate::lent::Tables;
 use crate::sent::{Answer, Sent};
 use census::{Mood, is_asker};
 use lines::Lines;
-use objects::Objects;
+use objects::{Fault, Objects};
 use rounds::Noted;
 use wire::{Census, House, Message, Refusal, RoundNumber, Tally};
 
@@ -23,10 +23,8 @@ impl Head {
         let census = self.standing.census();
         let (desk, number) = self.desk.begin(objects.houses());
         self.desk = desk;
-        match number {
-            Ok(number) => (self, Ok(Sent::One(Message::Round { census, number }))),
-            Err(refusal) => (self, Err(refusal.into())),
-        }
+        let round = number.map(|number| Sent::One(Message::Round { census, number }));
+        (self, round.map_err(Fault::from))
     }
 
     // The answer of house `from` to a round.

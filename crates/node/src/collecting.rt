@@ -6,7 +6,7 @@ ghost use Rattle.rules.specs.Step.{used, caught_up, polled, worded, bytes_of, co
 ghost use Rattle.lines.specs.declared.table.Lines.{Lines};
 ghost use Rattle.lines.specs.Lists.{Lent};
 ghost use Rattle.node.specs.Tied.{Tied};
-ghost use Rattle.node.specs.Shown.{always, house_of, Does, Gives, Steps};
+ghost use Rattle.node.specs.Shown.{always, by, house_of, Does, Gives, Steps};
 
 use crate::head::Head;
 use crate::lent::Tables;
@@ -59,19 +59,18 @@ impl Head {
     }
 
     // All that is in use of other houses is told to them, until they answer.
-    pub fn tell(mut self, objects: &Objects, list: &Lines) -> (Head, Answer)
-        requires { Tied objects.now list.now }
-        ensures { Steps result tell (house_of self objects.now list.now) objects.now list.now }
+    pub fn tell(mut self, tables: &Tables) -> (Head, Answer)
+        ensures { Does always (by tell) self tables.now result tables.now }
     {
         let census = self.standing.census();
-        let Ok(in_use) = self.in_use(objects, list, census) else {
+        let Ok(in_use) = self.in_use(tables.objects, tables.list, census) else {
             return (self, Err(Fault::NoMemory));
         };
         let (standing, due) = self.standing.tell(&in_use);
         self.standing = standing;
         // with `map` and `map_err` it gets no proof
         match due {
-            Ok(names) => (self, Ok(Sent::Tellings(census, list.home, names))),
+            Ok(names) => (self, Ok(Sent::Tellings(census, tables.list.home, names))),
             Err(_) => (self, Err(Fault::NoMemory)),
         }
     }

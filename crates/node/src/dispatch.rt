@@ -66,7 +66,7 @@ impl Head {
             Call::Collect => self.collect(tables.objects, tables.list),
             Call::Word { to } => self.word(tables.objects, tables.list, to),
             Call::Join { census } => self.join(tables.objects, tables.list, census),
-            Call::Tell => self.tell(tables.objects, tables.list),
+            Call::Tell => self.tell(tables),
             Call::Round => self.round(tables.objects, tables.list),
         }
     }

@@ -2,7 +2,6 @@
 
 #![tactic(auto)]
 
-use anyhow::anyhow;
 use console::Player;
 use lines::Line;
 use net::{Net, Played, Setback};
@@ -31,20 +30,24 @@ fn place(number: u64) -> Option<usize> {
     usize::try_from(number.checked_sub(1)?).ok()
 }
 
+fn malformed(out: &mut String) -> anyhow::Result<()> {
+    Ok(text::write_refusal(Refusal::Malformed, out)?)
+}
+
 impl Rehearsal {
     // What was sent since is printed with its numbers, or why nothing was done.
     fn report(&mut self, played: Played, out: &mut String) -> anyhow::Result<()> {
         match played {
-            Ok(()) => Ok(self.print_sent(out)?),
-            Err(Setback::Fault(Fault::Refused(refusal))) => Ok(text::write_refusal(refusal, out)?),
-            Err(Setback::Fault(Fault::NoMemory) | Setback::Lost) => Err(anyhow!("out of memory")),
+            Ok(()) => self.print_sent(out)?,
+            Err(Setback::Fault(Fault::Refused(refusal))) => text::write_refusal(refusal, out)?,
+            Err(Setback::Fault(Fault::NoMemory) | Setback::Lost) => return Err(AllocError.into()),
         }
+        Ok(())
     }
 
     fn print_sent(&mut self, out: &mut String) -> Result<(), AllocError> {
         let sent = self.net.messages();
-        for (place, bytes) in sent.iter().enumerate().skip(self.printed) {
-            let number = place.saturating_add(1);
+        for (number, bytes) in (1u64..).zip(sent).skip(self.printed) {
             write!(out, "{number} ")?;
             text::write_hex(bytes, out)?;
             out.push('\n')?;
@@ -53,17 +56,13 @@ impl Rehearsal {
         Ok(())
     }
 
-    fn malformed(&self, out: &mut String) -> anyhow::Result<()> {
-        Ok(text::write_refusal(Refusal::Malformed, out)?)
-    }
-
     // A house does what it is told. Bytes that come as digits may be anybody's.
     fn follow(&mut self, house: House, order: Order, out: &mut String) -> anyhow::Result<()> {
         let played = match order {
             Order::Call(call) => self.net.call(house, call),
             Order::Got(digits) => match text::read_hex(self.heap, digits)? {
                 Some(bytes) => self.net.forge(house, &bytes),
-                None => return self.malformed(out),
+                None => return malformed(out),
             },
         };
         self.report(played, out)
@@ -71,7 +70,7 @@ impl Rehearsal {
 
     fn deliver_at(&mut self, house: House, number: u64, out: &mut String) -> anyhow::Result<()> {
         let Some(message) = place(number) else {
-            return self.malformed(out);
+            return malformed(out);
         };
         let played = self.net.deliver(house, message);
         self.report(played, out)
@@ -79,9 +78,7 @@ impl Rehearsal {
 
     // Whom a message is for.
     fn recipient(&self, number: u64) -> Option<Recipient> {
-        let bytes = self.net.messages().get(place(number)?)?;
-        let read = wire::read(bytes, self.net.count()).ok()?;
-        Some(node::goes_to(read.message))
+        self.net.recipient(place(number)?)
     }
 
     // A message comes to whom it is for, or to each house in order.
@@ -94,7 +91,7 @@ impl Rehearsal {
                 }
                 Ok(())
             }
-            None => self.malformed(out),
+            None => malformed(out),
         }
     }
 
@@ -144,14 +141,15 @@ fn show_line(line: Line, out: &mut String) -> Result<(), AllocError> {
 impl Player for Rehearsal {
     fn answer(&mut self, line: &[u8], out: &mut String) -> anyhow::Result<()> {
         match text::read_play(line) {
-            Ok(None) => Ok(()),
-            Ok(Some(Play::At(house, order))) => self.follow(house, order, out),
-            Ok(Some(Play::DeliverAt(house, message))) => self.deliver_at(house, message, out),
-            Ok(Some(Play::Deliver(message))) => self.deliver(message, out),
-            Ok(Some(Play::Show)) => Ok(self.show(out)?),
-            Ok(Some(Play::Settle)) => self.settle(out),
-            Err(refusal) => Ok(text::write_refusal(refusal, out)?),
+            Ok(None) => {}
+            Ok(Some(Play::At(house, order))) => self.follow(house, order, out)?,
+            Ok(Some(Play::DeliverAt(house, message))) => self.deliver_at(house, message, out)?,
+            Ok(Some(Play::Deliver(message))) => self.deliver(message, out)?,
+            Ok(Some(Play::Show)) => self.show(out)?,
+            Ok(Some(Play::Settle)) => self.settle(out)?,
+            Err(refusal) => text::write_refusal(refusal, out)?,
         }
+        Ok(())
     }
 }
 
@@ -163,14 +161,15 @@ fn empty(heap: Global, arguments: &[u64]) -> anyhow::Result<Option<Rehearsal>> {
     let Ok(count @ 1..=4) = u8::try_from(*count) else {
         return Ok(None);
     };
-    let Ok(net) = Net::new(heap, count) else {
-        return Err(anyhow!("out of memory"));
-    };
-    Ok(Some(Rehearsal {
-        heap,
-        net,
-        printed: 0,
-    }))
+    match Net::new(heap, count) {
+        Ok(net) => Ok(Some(Rehearsal {
+            heap,
+            net,
+            printed: 0,
+        })),
+        Err(Fault::Refused(_)) => Ok(None),
+        Err(Fault::NoMemory) => Err(AllocError.into()),
+    }
 }
 
 fn main(rt: HostRuntime) -> anyhow::Result<ExitCode> {

@@ -1,4 +1,4 @@
-ghost use Rattle.std.specs.Prelude.{◌≡◌, map, IfOk};
+ghost use Rattle.std.specs.Prelude.{◌≡◌, [], map, IfOk, OnErr};
 ghost use Rattle.wire.specs.Format.{encode};
 ghost use Rattle.node.specs.Shown.{letters};
 ghost use Rattle.store.specs.Sending.{bytes_of, contents, tellings};
@@ -22,7 +22,8 @@ fn telling_bytes(
     from: House,
     names: &[Name],
 ) -> Result<Vec<Vec<u8>>, AllocError>
-    ensures { IfOk result (λ v. contents v ≡ map bytes_of (tellings census from names.now)) }
+    ensures bytes { IfOk result (λ v. contents v ≡ map bytes_of (tellings census from names.now)) }
+    ensures asks { OnErr result (names.now ≡ [] → ⊥) }
 {
     let mut out = Vec::new(heap);
     for &object in names {
@@ -36,9 +37,10 @@ fn telling_bytes(
     Ok(out)
 }
 
-// The bytes of each message that a step sends, in their order.
+// The bytes of each message that a step sends, in their order. Where it sends none no memory is wanted.
 pub fn messages(heap: Global, sent: &Sent) -> Result<Vec<Vec<u8>>, AllocError>
-    ensures { IfOk result (λ v. contents v ≡ map bytes_of (letters sent.now)) }
+    ensures bytes { IfOk result (λ v. contents v ≡ map bytes_of (letters sent.now)) }
+    ensures asks { OnErr result (letters sent.now ≡ [] → ⊥) }
 {
     match sent {
         Sent::Nothing => Ok(Vec::new(heap)),

@@ -5,4 +5,4 @@ use Rattle.net.proofs.net.Net.delivers.Goals as goal
 
 pub returns : goal.returns
 returns c =
-    along_one (is_ok c.unless_refused.result) c.deliver.result (delivers c.args.house.0 c.args.message) c.args.self.now c.deliver.new.self c.unless_refused.ensures c.deliver.ensures.plays c.deliver.ensures.faithful c.deliver.ensures.count
+    along_one (is_ok c.with_memory.result) c.deliver.result (delivers c.args.house.0 c.args.message) c.args.self.now c.deliver.new.self c.with_memory.ensures c.deliver.ensures.plays c.deliver.ensures.faithful c.deliver.ensures.count

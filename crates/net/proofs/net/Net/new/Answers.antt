@@ -30,22 +30,22 @@ lawful =
       needed = stirred_needed;
     }
 
-begins : (c : goal.After-new-2) → world_of (vec_items c.in-Ok.houses) (map items_in (vec_items c.new-2.result)) ≡ begin c.args.count
-begins c = ap (λ (xs : List (Vec ℕ Global)). world_of (vec_items c.in-Ok.houses) (map items_in xs)) c.new-2.ensures.items ∙ row_begins c.args.count (vec_items c.in-Ok.houses) c.in-Ok.ensures
+begins : (c : goal.After-new-2) → world_of (vec_items c.in_ok-houses.houses) (map items_in (vec_items c.new-2.result)) ≡ begin c.args.count
+begins c = ap (λ (xs : List (Vec ℕ Global)). world_of (vec_items c.in_ok-houses.houses) (map items_in xs)) c.new-2.ensures.items ∙ row_begins c.args.count (vec_items c.in_ok-houses.houses) c.in_ok-houses.ensures
 
 pub invariant_of-result : goal.invariant_of-result
 invariant_of-result c =
-    let e = row_count c.args.count (vec_items c.in-Ok.houses) c.in-Ok.ensures in
+    let e = row_count c.args.count (vec_items c.in_ok-houses.houses) c.in_ok-houses.ensures in
     record { some = search (e, rules); few = search (e, rules); reached = λ _. rw (e, begins c) (∣ start ∣₁) }
 
 pub returns-clause-begun : goal.returns-clause-begun
-returns-clause-begun c = record { count = row_count c.args.count (vec_items c.in-Ok.houses) c.in-Ok.ensures; world = begins c.before; faithful = refl }
+returns-clause-begun c = record { count = row_count c.args.count (vec_items c.in_ok-houses.houses) c.in_ok-houses.ensures; world = begins c.before; faithful = refl }
 
 pub returns-then-not-contains-clause-lawful : goal.returns-then-not-contains-clause-lawful
 returns-then-not-contains-clause-lawful c = lawful
 
-pub returns-in_default-clause-lawful : goal.returns-in_default-clause-lawful
-returns-in_default-clause-lawful c = lawful
+pub returns-in_err-houses-clause-lawful : goal.returns-in_err-houses-clause-lawful
+returns-in_err-houses-clause-lawful c = lawful
 
 pub returns-clause-lawful : goal.returns-clause-lawful
 returns-clause-lawful c = lawful

@@ -1,6 +1,6 @@
 use Rattle.std.proofs.Common.{◌+◌, ◌*◌, ◌-◌}
 use Rattle.play.specs.Settle.{passes}
-use Rattle.net.specs.Settling.{Rest}
+use Rattle.net.proofs.SettlingParts.{Rest}
 use Rattle.net.proofs.net.Net.passes.Given as goal
 
 abbrev pub invariant-loop : goal.invariant-loop

@@ -1,5 +1,5 @@
 use Rattle.play.specs.Settle.{pump}
-use Rattle.net.specs.Settling.{Rest}
+use Rattle.net.proofs.SettlingParts.{Rest}
 use Rattle.net.proofs.net.Net.pump.Given as goal
 
 abbrev pub invariant-loop-left : goal.invariant-loop-left

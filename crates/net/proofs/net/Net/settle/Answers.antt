@@ -1,7 +1,7 @@
-use Rattle.std.proofs.Common.{rules, ◌≤◌}
+use Rattle.std.proofs.Common.{rules, true, false, ◌≤◌}
 use Rattle.play.specs.Settle.{above}
 use Rattle.net.specs.Nets.{count, world}
-use Rattle.net.proofs.SettlingWhole.{keeps, above_in, whole}
+use Rattle.net.proofs.SettlingWhole.{keeps, above_in, entries, not_told, not_joined, not_said, whole}
 use Rattle.net.proofs.net.Net.settle.Goals as goal
 
 pub returns-then-above-from-clause-promise : goal.returns-then-above-from-clause-promise
@@ -25,8 +25,21 @@ returns-clause-promise c = keeps c.calling_each.new.self
 pub returns-then-above-from-clause-ends : goal.returns-then-above-from-clause-ends
 returns-then-above-from-clause-ends c = search (above_in c.above.result c.args.self.now c.deref.result.now c.deref.ensures.value c.above.ensures, rules)
 
+pub returns-in_err-words-clause-ends : goal.returns-in_err-words-clause-ends
+returns-in_err-words-clause-ends c = search (not_said c.args.self.now c.words.new.self c.in_err-words.ensures, rules)
+
+pub returns-in_err-join_all-clause-ends : goal.returns-in_err-join_all-clause-ends
+returns-in_err-join_all-clause-ends c = search (not_joined c.args.self.now c.words.new.self c.join_all.new.self c.in_ok-words.ensures c.in_err-join_all.ensures, rules)
+
+pub returns-in_err-complete-clause-ends : goal.returns-in_err-complete-clause-ends
+returns-in_err-complete-clause-ends c = search (not_told false c.args.self.now c.words.new.self c.join_all.new.self c.complete.new.self c.complete.new.self c.in_ok-words.ensures c.in_ok-join_all.ensures c.in_err-complete.ensures, rules)
+
+pub returns-in_err-calling_each-clause-ends : goal.returns-in_err-calling_each-clause-ends
+returns-in_err-calling_each-clause-ends c =
+    search (entries false c.args.self.now c.words.new.self c.join_all.new.self c.complete.new.self c.calling_each.new.self c.in_ok-words.ensures c.in_ok-join_all.ensures c.in_ok-complete.ensures c.in_err-calling_each.ensures, rules)
+
 pub returns-clause-ends : goal.returns-clause-ends
 returns-clause-ends c =
     let t = c.args.self.now in
     let le : above (count t) (world t) ≤ 4294967295 = search (above_in c.above.result t c.deref.result.now c.deref.ensures.value c.above.ensures, rules) in
-    whole t c.words.new.self c.join_all.new.self c.complete.new.self c.calling_each.new.self le c.in_ok-words.ensures c.in_ok-join_all.ensures c.in_ok-complete.ensures c.in_ok-calling_each.ensures
+    whole t c.calling_each.new.self le (entries true t c.words.new.self c.join_all.new.self c.complete.new.self c.calling_each.new.self c.in_ok-words.ensures c.in_ok-join_all.ensures c.in_ok-complete.ensures c.in_ok-calling_each.ensures)
