@@ -1,12 +1,18 @@
 -- The promise over every play, from the promise over every run of the relation.
-use Rattle.std.proofs.Common.{◌≡◌, ℕ, ◌<◌, ◌≤◌, Bool, true, leb, List, [], ◌∷◌, Ok, Err, Result, sym, refl, ap, ◌∙◌, subst, inl, inr, ⊎_elim, arith}
+use Rattle.std.proofs.Common.{◌≡◌, ℕ, ◌+◌, ◌*◌, ◌/◌, ◌<◌, ◌≤◌, Bool, true, not, ◌&&◌, ◌||◌, eqb, ltb, leb, List, [], ◌∷◌, length, is_ok, Ok, Err, Result, sym, refl, ap, ◌∙◌, subst, inl, inr, ⊎_elim, arith}
 use mathlib.Core.List.Memᴰ
 use mathlib.Core.List.{Memᴰ}
-use Rattle.std.proofs.lemmas.Bool.{and_parts, leb-true}
+use Rattle.std.proofs.lemmas.Bool.{and_parts, or_parts, leb-true, leb-false}
 use Rattle.wire.specs.declared.message.Message.{Message}
 use Rattle.wire.specs.declared.message.Message.TheVariants as message
 use Rattle.wire.specs.declared.refusal.Refusal.{Refusal}
-use Rattle.wire.specs.Names.{house, name}
+use Rattle.wire.specs.Names.{home, house, name}
+use Rattle.wire.specs.declared.names.Name.{Name}
+use Rattle.wire.specs.declared.refusal.Refusal.TheVariants.{Malformed, NoRoom, OutOfNumbers}
+use Rattle.tables.specs.Model.{Heap}
+use Rattle.objects.specs.Calls.{make_answer, roomy}
+use Rattle.rules.specs.House.{House}
+use Rattle.rules.specs.Step.{make, quietly, step}
 use Rattle.wire.specs.Format.{decode}
 use Rattle.lines.specs.Stamping.{stamp}
 use Rattle.rounds.specs.Model.{agreed, all_agree}
@@ -23,7 +29,7 @@ use Rattle.play.specs.Play.{World, Entry, play, cleaning}
 use Rattle.play.specs.Seen.{msg_in, msgs_seen, seen}
 use Rattle.play.specs.Promise.{Has, SameMatters, Safe, AlwaysSafe}
 use Rattle.play.proofs.Sending.{msg_seen}
-use Rattle.play.proofs.Frame.{Way}
+use Rattle.play.proofs.Frame.{Way, passed}
 use Rattle.play.proofs.Programs.{truth}
 use Rattle.play.proofs.Cleaning.{untruth}
 use Rattle.play.proofs.Rounding.{all_agreed}
@@ -107,6 +113,22 @@ same_matters n w k e c j o =
     let z = way_nothing k.few k.runs (subst (λ (b : Bool). Way b n (seen n w) (seen n (play n e w))) c (way_play n e w k)) j o in
     (λ h. has_back n (play n e w) (z.0 (has_seen n w h)), λ h. has_back n w (z.1 (has_seen n (play n e w) h)))
 
+not_refused : (r : Result Name Refusal) (x : Heap) (h : House) → is_ok (quietly r x h).answer ≡ true → is_ok r ≡ true
+not_refused (Ok a) x h e = refl
+not_refused (Err a) x h e = e
+
+-- a number that is made is above all that were
+above_made : (k : ℕ) (h : House) → is_ok (step h (make k)).answer ≡ true → h.heap.made < k
+above_made k h e =
+    let ok = not_refused (make_answer k h.heap) _ h e in
+    let a = passed (eqb k 0) Malformed _ ok in
+    let b = passed (not (ltb (length h.heap.objects) 1024 && roomy h.heap)) NoRoom _ a.1 in
+    let d = passed (leb k h.heap.made || ltb 4294967295 (k * 16 + h.heap.home)) OutOfNumbers _ b.1 in
+    leb-false k h.heap.made (or_parts (leb k h.heap.made) (ltb 4294967295 (k * 16 + h.heap.home)) d.0).0
+
+new_name : (w : World) (i k : ℕ) → i < 16 → (w.house i).heap.made < k → (k * 16 + i) / 16 ≤ (w.house (home (k * 16 + i))).heap.made → ⊥
+new_name w i k small above below = let e : home (k * 16 + i) ≡ i = omega arith in let z = ap (λ (j : ℕ). (w.house j).heap.made) e in omega arith
+
 pub safe : (n : ℕ) (w : World) → 0 < n → Kept n w → Safe n w
 safe n w some k =
     record {
@@ -114,6 +136,7 @@ safe n w some k =
       sound = k.sound;
       stamps = λ j i. rounds_stamps n k.few (seen n w) k.runs j i;
       fresh = λ o a. (rounds_fresh n k.few (seen n w) k.runs).0 o a;
+      new = λ i num lt e a. new_name w i num (small lt k.few) (above_made num (w.house i) e) ((rounds_fresh n k.few (seen n w) k.runs).0 (num * 16 + i) a);
       once = λ i o e. (rounds_fresh n k.few (seen n w) k.runs).1 i o (truth e);
       truly = λ e. rounds_true n k.few (seen n w) k.runs (ended_by n w some e);
       called = λ c bs m d. rounds_called n k.few (seen n w) k.runs c (msg_seen n w.sent bs (message.Complete (record { 0 = c })) (net.Sweep c) m d (Memᴰ.head refl));
@@ -122,6 +145,9 @@ safe n w some k =
       stays = λ c m e all. way_stays c k.few k.runs m (way_play n e w k) all;
       nothing = λ e c. same_matters n w k e c;
     }
+  where
+    small : {a b c : ℕ} → a < b → b ≤ c → a < c
+    small p q = omega arith
 
 pub always_safe : AlwaysSafe
 always_safe n some few w r = safe n w some (kept n few r)

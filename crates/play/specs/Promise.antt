@@ -1,5 +1,5 @@
 -- What is promised of every play.
-use Rattle.std.specs.Prelude.{◌≡◌, ℕ, ◌/◌, ◌<◌, ◌≤◌, true, ◌⊎◌, List, Ok}
+use Rattle.std.specs.Prelude.{◌≡◌, ℕ, ◌+◌, ◌*◌, ◌/◌, ◌<◌, ◌≤◌, true, ◌⊎◌, List, is_ok, Ok}
 use mathlib.Core.List.{Memᴰ}
 use Rattle.wire.specs.declared.message.Message.TheVariants as message
 use Rattle.wire.specs.declared.message.Message.TheVariants.{Give}
@@ -10,6 +10,7 @@ use Rattle.lines.specs.Listed.{listed, listed_in}
 use Rattle.lines.specs.Stamping.{stamp, given_to, seen_from, heard_from}
 use Rattle.rounds.specs.Model.{agreed}
 use Rattle.rules.specs.House.{census}
+use Rattle.rules.specs.Step.{make, step}
 use Rattle.rules.specs.Sound.{Sound}
 use Rattle.promise.specs.House.{count_of}
 use Rattle.promise.specs.Net as net
@@ -43,8 +44,10 @@ pub record Safe (n : ℕ) (w : World) : Type 0 where
   pub sound : (i : ℕ) → i < n → Sound (w.house i)
   -- a house has seen what it is known to have seen, and was given what it has seen
   pub stamps : (j k : ℕ) → (heard_from (w.house k).stamps j ≤ seen_from (w.house j).stamps k) × (seen_from (w.house j).stamps k ≤ given_to (w.house k).stamps j)
-  -- a name that stands anywhere has a number that its home has made, so no name is used twice
+  -- a name that stands anywhere has a number that its home has made
   pub fresh : (o : ℕ) → Anywhere (seen n w).net o → o / 16 ≤ (w.house (home o)).heap.made
+  -- so an object that is made gets a name that stands nowhere yet: no name is used twice
+  pub new : (i k : ℕ) → i < n → is_ok (step (w.house i) (make k)).answer ≡ true → Anywhere (seen n w).net (k * 16 + i) → ⊥
   -- an object is at home, and once
   pub once : (i o : ℕ) → present o (w.house i).heap.objects ≡ true → (home o ≡ i) × (count_of o (w.house i).heap.objects ≡ 1)
   -- a census that two rounds found complete was complete at the moment when the second was begun
