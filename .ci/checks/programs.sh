@@ -3,11 +3,13 @@
 HOUSE=crates/house/out/house
 REHEARSE=crates/rehearse/out/rehearse
 
-# A program as 'rt ci' left it in its crate's folder, or else as a run there builds it.
+# A program as 'rt ci' left it in its crate's folder, if no source is newer, or else as a run there builds it.
 builds_program() {
     local name=$1 log status
     shift
-    [ ! -x "crates/$name/out/$name" ] || return 0
+    if [ -x "crates/$name/out/$name" ] && [ -z "$(find crates -name '*.rt' -newer "crates/$name/out/$name" -print -quit)" ]; then
+        return 0
+    fi
     log=$(mktemp)
     (cd "crates/$name" && rt run -- "$@") >"$log" 2>&1 </dev/null
     status=$?

@@ -11,11 +11,11 @@ timed() {
 
 # The first seed and how many, each with a program; a difference is printed with its seed and a script made small.
 rehearses_alike() {
-    peer/target/release/compare rehearse crates/rehearse/out/rehearse 1 1000
+    peer/target/release/compare rehearse "$REHEARSE" 1 1000
 }
 
 houses_alike() {
-    peer/target/release/compare house crates/house/out/house 1001 400
+    peer/target/release/compare house "$HOUSE" 1001 400
 }
 
 # What the second programs print is what was compared above.

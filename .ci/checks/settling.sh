@@ -3,7 +3,7 @@
 settles() {
     local script=$1 houses out
     houses=$(sed -n 's/^houses //p' "$script")
-    out=$(grep -v '^\(houses \|=\)' "$script" | crates/rehearse/out/rehearse "$houses" | grep -v '^[0-9]') || return 1
+    out=$(set -o pipefail && grep -v '^\(houses \|=\)' "$script" | "$REHEARSE" "$houses" | grep -v '^[0-9]') || return 1
     [ "$out" = "$(sed -n 's/^= //p' "$script")" ] || {
         diff <(sed -n 's/^= //p' "$script") <(printf '%s\n' "$out")
         return 1

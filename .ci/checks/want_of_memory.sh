@@ -16,7 +16,7 @@ breaks_off() {
     shift 3
     (ulimit -v "$limit" && exec "$@") <"$SCRATCH/$input" >"$SCRATCH/out" 2>"$SCRATCH/err"
     status=$?
-    [ "$status" -eq 1 ] && [ "$(cat "$SCRATCH/err")" = 'Error: out of memory' ] &&
+    [ "$status" -eq 1 ] && grep -qxE 'Error: (out of memory|memory allocation failed)' "$SCRATCH/err" &&
         [ "$(wc -c <"$SCRATCH/out")" -lt "$(wc -c <"$SCRATCH/$whole")" ] &&
         cmp -s -n "$(wc -c <"$SCRATCH/out")" "$SCRATCH/out" "$SCRATCH/$whole"
 }
