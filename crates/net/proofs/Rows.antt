@@ -1,26 +1,14 @@
 -- A row of empty houses is the beginning of a world.
-use Rattle.std.proofs.Common.{◌≡◌, ℕ, zero, suc, ◌+◌, ◌<◌, ◌≤◌, true, false, ◌⊎◌, List, [], ◌∷◌, ◌++◌, map, length, get_or, is_ok, is_err, Ok, Err, Result, sym, refl, ap, ◌∙◌, subst, inl, inr, arith}
+use Rattle.std.proofs.Common.{◌≡◌, ℕ, zero, suc, ◌+◌, ◌<◌, ◌≤◌, ◌⊎◌, List, [], ◌∷◌, ◌++◌, map, length, get_or, sym, refl, ap, ◌∙◌, subst, inl, inr, arith}
 use mathlib.Core.Path.{fun_ext}
 use Rattle.std.proofs.lemmas.List.{length-map, length_push, get_or_append_left, get_or_past, get_or_push}
-use Rattle.std.proofs.lemmas.Bool.{cases_order, false≢true}
+use Rattle.std.proofs.lemmas.Bool.{cases_order}
 use Rattle.rules.specs.House.{House, empty}
 use Rattle.play.specs.Play.{begin}
 use Rattle.store.specs.declared.table.Store.{Store}
 use Rattle.store.specs.Stores.{house_in}
 use Rattle.net.specs.Rows.{empties}
 use Rattle.net.specs.Worlds.{world_of}
-
-map_push : (xs : List Store) (x : Store) → map house_in (xs ++ x ∷ []) ≡ map house_in xs ++ house_in x ∷ []
-map_push [] x = refl
-map_push (y ∷ xs) x = ap (λ (zs : List House). house_in y ∷ zs) (map_push xs x)
-
--- one house more
-pub row_more : (n i : ℕ) (xs ys : List Store) (x : Store) → map house_in xs ≡ empties n i → ys ≡ xs ++ x ∷ [] → house_in x ≡ empty i n → map house_in ys ≡ empties n (i + 1)
-row_more n i xs ys x e f g =
-    subst (λ (k : ℕ). map house_in ys ≡ empties n k) one (ap (map house_in) f ∙ map_push xs x ∙ ap (λ (zs : List House). zs ++ house_in x ∷ []) e ∙ ap (λ (h : House). empties n i ++ h ∷ []) g)
-  where
-    one : suc i ≡ i + 1
-    one = omega arith
 
 pub empties_long : (n k : ℕ) → length (empties n k) ≡ k
 empties_long n zero = refl
@@ -51,8 +39,3 @@ pub row_begins : (n : ℕ) (xs : List Store) → map house_in xs ≡ empties n n
 row_begins n xs e =
     ap (λ (f : ℕ → House). record { house = f; sent = [] })
     (fun_ext (λ k. ap (λ (hs : List House). get_or hs k (empty k (length xs))) e ∙ ap (λ (m : ℕ). get_or (empties n n) k (empty k m)) (row_count n xs e) ∙ empties_at n n k))
-
--- what was not refused went well
-pub not_refused : {X Y : Type 0} (r : Result X Y) → false ≡ is_err r → is_ok r ≡ true
-not_refused (Ok x) e = refl
-not_refused (Err y) e = absurd (false≢true e)

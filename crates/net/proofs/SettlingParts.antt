@@ -1,5 +1,5 @@
 -- Parts of settling, one after the other.
-use Rattle.std.proofs.Common.{◌≡◌, ℕ, zero, suc, ◌+◌, ◌-◌, ◌<◌, ◌≤◌, Bool, true, false, cond, ◌&&◌, eqb, ltb, List, [], ◌∷◌, ◌++◌, map, length, get_or, Ok, Err, sym, refl, ap, ◌∙◌, subst, add-one, arith}
+use Rattle.std.proofs.Common.{◌≡◌, ℕ, zero, suc, ◌+◌, ◌-◌, ◌<◌, ◌≤◌, Bool, true, false, cond, ◌&&◌, eqb, ltb, List, [], ◌∷◌, ◌++◌, length, get_or, Ok, Err, sym, refl, ap, ◌∙◌, subst, add-one, arith}
 use Rattle.std.proofs.lemmas.List.{append-nil}
 use Rattle.std.proofs.lemmas.Bool.{false≢true, lt-ltb, le-ltb, eq-eqb, ne_eqb, cond-true, cond-false}
 use Rattle.wire.specs.declared.refusal.Refusal.{Refusal}
@@ -7,11 +7,11 @@ use Rattle.wire.specs.declared.refusal.Refusal.TheVariants.{Malformed}
 use Rattle.rules.specs.Step.{Event, Said, came, step, event_of}
 use Rattle.rules.proofs.Fairness.{always_fair}
 use Rattle.play.specs.Play.{World, Entry, calls, delivers, happens, written, play, answered, plays}
-use Rattle.play.specs.Settle.{below, delivery, deliveries, and_then, pump, each, pass, tallies, passes}
+use Rattle.play.specs.Settle.{deliveries, and_then, pump, each, pass, tallies, passes}
 use Rattle.play.proofs.FairEntries.{plays_append}
 use Rattle.net.proofs.Entered.{put_same, world_same}
 use Rattle.net.specs.Nets.{Played, count, world, faithful, Plays, is_lost, had_memory}
-use Rattle.net.specs.Settling.{Script, BrokenOff, short, lost, later, Along}
+use Rattle.net.specs.Settling.{Script, BrokenOff, short, lost, Along}
 use Rattle.net.proofs.Broken.{broken_front, broken_after, broken_each}
 use Rattle.net.specs.declared.net.Net.{Net}
 use Rattle.objects.specs.declared.fault.Fault.TheVariants.{Refused, NoMemory}

@@ -1,6 +1,6 @@
-use Rattle.std.proofs.Common.{rules, ◌≡◌, false, Bool, ◌+◌, ◌-◌, ◌*◌, ℕ, [], ◌∷◌, length, is_ok, ap}
+use Rattle.std.proofs.Common.{rules, ◌≡◌, false, Bool, ◌+◌, ◌*◌, ℕ, [], ◌∷◌, length, is_ok, ap}
 use Rattle.wire.specs.declared.call.Call.{Call}
-use Rattle.play.specs.Play.{World, calls}
+use Rattle.play.specs.Play.{calls}
 use Rattle.play.specs.Settle.{and_then, calling, enough, pump}
 use Rattle.net.specs.Nets.{count, world}
 use Rattle.net.specs.Settling.{Script, Along}

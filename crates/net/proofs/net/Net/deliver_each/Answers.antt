@@ -1,4 +1,4 @@
-use Rattle.std.proofs.Common.{rules, ◌≡◌, true, false, Bool, [], ◌∷◌, map, is_ok}
+use Rattle.std.proofs.Common.{rules, true, false, Bool, [], ◌∷◌, map, is_ok}
 use Rattle.play.specs.Play.{delivers}
 use Rattle.play.specs.Settle.{below, delivery, each}
 use Rattle.net.specs.Nets.{count, world}
