@@ -155,9 +155,5 @@ unanswered_all (u ∷ us) ts r =
     let d = untold_cons u us ts in
     omega arith
 
-pub length_unanswered : (ts : List Told) → length (unanswered ts) ≤ length ts
-length_unanswered [] = omega arith
-length_unanswered (t ∷ ts) = let i = length_unanswered ts in ⊎_elim (λ e. rw e (omega arith)) (λ e. rw e (omega arith)) (cases_Bool t.answered)
-
 pub untold_one : (o : ℕ) (ts : List Told) → is_in o (names ts) ≡ false → length (untold (o ∷ []) ts) ≡ 1
 untold_one o ts e = rw e

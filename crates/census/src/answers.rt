@@ -37,29 +37,22 @@ impl Standing {
         Ok(())
     }
 
-    // Whether every far reference in use was told in this census, and every telling answered, also of what is in use no longer.
-    pub fn calm(&self, in_use: &[Name]) -> bool
-        ensures { result ≡ calm (numbers in_use.now) (part_of self.now) }
-    {
-        self.told.count_untold(in_use) == 0 && self.told.count_unanswered() == 0
-    }
-
-    // The same, as a house says it of itself.
+    // Calm if every far reference in use was told in this census, and every telling answered, also of what is in use no longer.
     pub fn mood(&self, in_use: &[Name]) -> Mood
         ensures { is_calm result ≡ calm (numbers in_use.now) (part_of self.now) }
     {
-        Mood::from(self.calm(in_use))
+        Mood::from(self.told.count_untold(in_use) == 0 && self.told.count_unanswered() == 0)
     }
 
     // What the house says to a round. Until every house has answered round 1, one that is not in the census yet may hand out a
-    // reference by a line with an older number, which nobody has to mark. So to round 2 a house that took one since it answered says no.
-    fn says_calm(&self, number: RoundNumber, in_use: &[Name]) -> bool
-        ensures { result ≡ says_calm number.0 (numbers in_use.now) (part_of self.now) }
+    // reference by a line with an older number, which nobody has to mark. So to round 2 a house that took one since it answered is restless.
+    fn says(&self, number: RoundNumber, in_use: &[Name]) -> Mood
+        ensures { is_calm result ≡ says_calm number.0 (numbers in_use.now) (part_of self.now) }
     {
         if number == RoundNumber(2) && self.first == FirstRound::Stirred {
-            return false;
+            return Mood::Restless;
         }
-        self.calm(in_use)
+        self.mood(in_use)
     }
 
     // The house has answered a round.
@@ -101,7 +94,7 @@ impl Standing {
             census,
             number,
             from,
-            calm: self.says_calm(number, in_use),
+            calm: self.says(number, in_use).is_calm(),
             tally: self.tally,
         };
         self.poll(number);

@@ -51,10 +51,10 @@ fn tells_until_answered(rt: HostRuntime) -> Result<(), Fail> {
     let due = due?;
     assert!(rt; due.len() == 1);
     assert_eq!(rt; due[0].0, 49);
-    assert!(rt; !part.calm(&[]));
+    assert!(rt; !part.mood(&[]).is_calm());
     let (part, answer) = part.answered(Census(0), Name(49));
     assert_eq!(rt; refused(answer), 0);
-    assert!(rt; part.calm(&[Name(33)]) && !part.calm(&[Name(65)]));
+    assert!(rt; part.mood(&[Name(33)]).is_calm() && !part.mood(&[Name(65)]).is_calm());
     Ok(())
 }
 
@@ -64,14 +64,14 @@ fn refuses_other_censuses(rt: HostRuntime) -> Result<(), Fail> {
     assert_eq!(rt; due?.len(), 1);
     let (part, answer) = part.answered(Census(1), Name(33));
     assert_eq!(rt; refused(answer), 8);
-    assert!(rt; !part.calm(&[]));
+    assert!(rt; !part.mood(&[]).is_calm());
     let (part, reply) = part.reply(House(3), Census(1), RoundNumber(1), &[]);
     match reply {
         Ok(_) => assert!(rt; false),
         Err(refusal) => assert_eq!(rt; refusal.number(), 8),
     }
     let (part, _joined) = part.join(Census(1));
-    assert!(rt; part.calm(&[]));
+    assert!(rt; part.mood(&[]).is_calm());
     Ok(())
 }
 

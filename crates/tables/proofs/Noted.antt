@@ -32,13 +32,6 @@ count_set (m ∷ ms) zero h e = rw e (omega arith)
 count_set (m ∷ ms) (suc i) h e = omega (arith, count_set ms i (omega arith) e)
 
 module _ (p : ℕ) where
-  pub noted_set : (ns : List ℕ) (ms : List Bool) (i : ℕ) → i < length ns → get_or ns i 0 ≡ p → noted p ns (set ms i true) ≡ noted p ns ms
-  unfolding noted
-  noted_set [] ms i h e = absurd (omega arith)
-  noted_set (n ∷ ns) [] i h e = refl
-  noted_set (n ∷ ns) (m ∷ ms) zero h e = let t : (m || eqb n p) ≡ true = ap (λ b. m || b) (eq-eqb n p e) ∙ or_true m in ap (λ b. b ∷ noted p ns ms) (sym t)
-  noted_set (n ∷ ns) (m ∷ ms) (suc i) h e = ap (λ r. (m || eqb n p) ∷ r) (noted_set ns ms i (omega arith) e)
-
   pub noted_done : (ns : List ℕ) (ms : List Bool) → ((k : ℕ) → k < length ns → get_or ns k 0 ≡ p → get_or ms k false ≡ true) → noted p ns ms ≡ ms
   unfolding noted
   noted_done [] ms h = refl
@@ -105,13 +98,6 @@ pub later : (ms : List Bool) (i : ℕ) → i < length ms → get_or (set ms i tr
 later [] i h = absurd (omega arith)
 later (m ∷ ms) zero h = refl
 later (m ∷ ms) (suc i) h = later ms i (omega arith)
-
-pub set_true : (ms : List Bool) (i k : ℕ) → get_or ms k false ≡ true → get_or (set ms i true) k false ≡ true
-set_true [] i k e = e
-set_true (m ∷ ms) zero zero e = refl
-set_true (m ∷ ms) zero (suc k) e = e
-set_true (m ∷ ms) (suc i) zero e = e
-set_true (m ∷ ms) (suc i) (suc k) e = set_true ms i k e
 
 -- a name that no object has marks nothing
 pub noted_out : (p : ℕ) (ns : List ℕ) (ms : List Bool) → is_in p ns ≡ false → noted p ns ms ≡ ms
