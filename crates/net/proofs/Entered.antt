@@ -1,8 +1,7 @@
 -- What becomes of the world of a net by one entry, and that it stays one that entries lead to.
-use Rattle.std.proofs.Common.{rules, ◌≡◌, ℕ, ◌<◌, ◌≤◌, Bool, true, false, cond, ◌&&◌, eqb, ltb, List, [], ◌∷◌, ◌++◌, length, get_or, is_ok, Ok, Err, vec_items, Vec, sym, refl, ap, ◌∙◌, subst}
-use mathlib.Core.Path.{fun_ext}
+use Rattle.std.proofs.Common.{rules, ◌≡◌, ℕ, ◌<◌, ◌≤◌, Bool, true, false, cond, ◌&&◌, ltb, List, [], ◌∷◌, ◌++◌, length, get_or, is_ok, Ok, Err, vec_items, Vec, sym, refl, ap, ◌∙◌, subst}
 use mathlib.Core.Logic.{∥∥₁_map}
-use Rattle.std.proofs.lemmas.Bool.{cond-true, eqb-true, false≢true, lt-ltb, and_from}
+use Rattle.std.proofs.lemmas.Bool.{cond-true, false≢true, lt-ltb, and_from}
 use Rattle.std.specs.declared.alloc.Global.{Global}
 use Rattle.std.specs.Vec.{with_items}
 use Rattle.std.proofs.lemmas.List.{with_items_is}
@@ -18,18 +17,15 @@ use Rattle.store.specs.Sending.{contents}
 use Rattle.play.specs.Play.{World, Entry, calls, delivers, put, happens, written, play, answered, Reach, more}
 use Rattle.play.specs.Promise.{Safe}
 use Rattle.play.proofs.Promise.{always_safe}
+use Rattle.play.proofs.SettledWord.{put_same}
 use Rattle.net.specs.Worlds.{houses_of, world_of}
 use Rattle.net.specs.Posted.{Posted}
 use Rattle.net.specs.Nets.{Played, Plays, Acts, is_lost, unsent, wanting}
 use Rattle.net.specs.declared.played.Setback.TheVariants.{Fault, Lost}
 
 -- a house that stays as it is
-pub put_same : (i : ℕ) (h : House) (f : ℕ → House) → h ≡ f i → put i h f ≡ f
-put_same i h f e = fun_ext (λ k. go k (eqb k i) refl)
-  where
-    go : (k : ℕ) (b : Bool) → eqb k i ≡ b → cond b h (f k) ≡ f k
-    go k true t = e ∙ ap f (sym (eqb-true k i t))
-    go k false t = refl
+pub put_back : (i : ℕ) (h : House) (f : ℕ → House) → h ≡ f i → put i h f ≡ f
+put_back i h f e = ap (λ (x : House). put i x f) e ∙ put_same i f
 
 abbrev world_from : (ℕ → House) → List (List ℕ) → World
 world_from f a = record { house = f; sent = a }
@@ -47,10 +43,10 @@ module _ (i : ℕ) (e : Event) (f g : ℕ → House) (others : g ≡ put i (g i)
   acts (Err (Fault (Refused x))) a d p =
       let q : Answers (Err (Refused x)) e (f i) (g i) = subst (λ (y : Answer). Answers y e (f i) (g i)) p.0 d in
       let n : (step (f i) e).answer ≡ Err x = ap (λ (y : Outcome). y.answer) q in
-      (n, world_same (others ∙ put_same i (g i) f (sym (ap (λ (y : Outcome). y.house) q) ∙ (always_fair (f i) e).unchanged x n)) p.1)
+      (n, world_same (others ∙ put_back i (g i) f (sym (ap (λ (y : Outcome). y.house) q) ∙ (always_fair (f i) e).unchanged x n)) p.1)
   acts (Err (Fault NoMemory)) a d p =
       let q : Answers (Err NoMemory) e (f i) (g i) = subst (λ (y : Answer). Answers y e (f i) (g i)) p.0 d in
-      (q.0, world_same (others ∙ put_same i (g i) f q.1) p.1)
+      (q.0, world_same (others ∙ put_back i (g i) f q.1) p.1)
   acts (Err Lost) a d p =
       let q : Answers (Ok p.0) e (f i) (g i) = subst (λ (x : Answer). Answers x e (f i) (g i)) p.1 d in (
         λ z. p.2 (none (letters p.0) (ap (λ (x : Outcome). written x.answer) (sym q) ∙ z)),

@@ -1,7 +1,7 @@
 -- Parts of settling, one after the other.
-use Rattle.std.proofs.Common.{◌≡◌, ℕ, zero, suc, ◌+◌, ◌-◌, ◌<◌, ◌≤◌, Bool, true, false, cond, ◌&&◌, eqb, ltb, List, [], ◌∷◌, ◌++◌, length, get_or, Ok, Err, sym, refl, ap, ◌∙◌, subst, add-one, arith}
+use Rattle.std.proofs.Common.{◌≡◌, ℕ, zero, suc, ◌+◌, ◌-◌, ◌<◌, Bool, true, false, cond, ◌&&◌, eqb, ltb, List, [], ◌∷◌, ◌++◌, length, get_or, Ok, Err, sym, refl, ap, ◌∙◌, subst, add-one, arith}
 use Rattle.std.proofs.lemmas.List.{append-nil}
-use Rattle.std.proofs.lemmas.Bool.{false≢true, lt-ltb, le-ltb, eq-eqb, ne_eqb, cond-true, cond-false}
+use Rattle.std.proofs.lemmas.Bool.{false≢true, lt-ltb, eq-eqb, ne_eqb, cond-true, cond-false}
 use Rattle.wire.specs.declared.refusal.Refusal.{Refusal}
 use Rattle.wire.specs.declared.refusal.Refusal.TheVariants.{Malformed}
 use Rattle.rules.specs.Step.{Event, Said, came, step, event_of}
@@ -9,7 +9,7 @@ use Rattle.rules.proofs.Fairness.{always_fair}
 use Rattle.play.specs.Play.{World, Entry, calls, delivers, happens, written, play, answered, plays}
 use Rattle.play.specs.Settle.{deliveries, and_then, pump, each, pass, tallies, passes}
 use Rattle.play.proofs.FairEntries.{plays_append}
-use Rattle.net.proofs.Entered.{put_same, world_same}
+use Rattle.net.proofs.Entered.{put_back, world_same}
 use Rattle.net.specs.Nets.{Played, count, world, faithful, Plays, is_lost, had_memory}
 use Rattle.net.specs.Settling.{Script, BrokenOff, short, lost, Along}
 use Rattle.net.proofs.Broken.{broken_front, broken_after, broken_each}
@@ -19,7 +19,7 @@ use Rattle.net.specs.declared.played.Setback.TheVariants.{Fault, Lost}
 
 happens_same : (i : ℕ) (e : Event) (w : World) (x : Refusal) → (step (w.house i) e).answer ≡ Err x → happens i e w ≡ w
 happens_same i e w x a =
-    world_same (put_same i (step (w.house i) e).house w.house ((always_fair (w.house i) e).unchanged x a)) (ap (λ (s : Said). w.sent ++ written s) a ∙ append-nil w.sent)
+    world_same (put_back i (step (w.house i) e).house w.house ((always_fair (w.house i) e).unchanged x a)) (ap (λ (s : Said). w.sent ++ written s) a ∙ append-nil w.sent)
 
 tested : (b : Bool) (i : ℕ) (e : Event) (w : World) (x : Refusal) → cond b (step (w.house i) e).answer (Err Malformed) ≡ Err x → cond b (happens i e w) w ≡ w
 tested true i e w x a = happens_same i e w x a
@@ -159,10 +159,6 @@ pump_more zero n m w lt ls = absurd (never lt)
     never q = omega arith
 pump_more (suc j) n m w lt ls =
     cond-true (ltb m (length w.sent)) _ [] (lt-ltb m (length w.sent) ls) ∙ ap (λ (k : ℕ). and_then n w (deliveries n m w) (λ v. pump k n (m + 1) v)) (less j)
-
-pub pump_none : (k n m : ℕ) (w : World) → length w.sent ≤ m → pump k n m w ≡ []
-pump_none zero n m w le = refl
-pump_none (suc j) n m w le = cond-false (ltb m (length w.sent)) _ [] (le-ltb m (length w.sent) le)
 
 -- passes
 abbrev after : ℕ → World → Script

@@ -11,7 +11,8 @@ use Rattle.play.specs.Play.{World, Entry, delivers, bytes_of, play, plays}
 use Rattle.play.specs.Settle.{below, delivery, pump, rounding}
 use Rattle.play.proofs.Frame.{moved, put_cases, desk_kept}
 use Rattle.play.proofs.Tracking.{Kept}
-use Rattle.play.proofs.Pump.{plays_append, got, Waits, reached, waits_got, waits_next, pump_on, calling_on}
+use Rattle.play.proofs.FairEntries.{plays_append}
+use Rattle.play.proofs.Pump.{got, Waits, reached, waits_got, waits_next, pump_on, calling_on}
 use Rattle.play.proofs.Calm.{Calmly, round_of, reply_of, polled_is, calmly_polled}
 use Rattle.play.proofs.CalmDesk.{begins_next}
 

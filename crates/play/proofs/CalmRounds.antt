@@ -6,7 +6,8 @@ use Rattle.play.specs.Play.{World, plays}
 use Rattle.play.specs.Settle.{below, and_then, rounding}
 use Rattle.play.specs.Exact.{Swept}
 use Rattle.play.proofs.Tracking.{Kept}
-use Rattle.play.proofs.Pump.{plays_append, Waits, pump_end}
+use Rattle.play.proofs.FairEntries.{plays_append}
+use Rattle.play.proofs.Pump.{Waits, pump_end}
 use Rattle.play.proofs.Calm.{reply_of}
 use Rattle.play.proofs.CalmDesk.{Heard, Spoken, heard_next, ready_spoken, first_round, second_round}
 use Rattle.play.proofs.CalmAsked.{AllCalm, rounding_on}

@@ -10,7 +10,7 @@ use Rattle.rules.proofs.Sound.{tally_few}
 use Rattle.play.specs.Play.{World, Entry, plays}
 use Rattle.play.specs.Settle.{calling, each, pass, tallies, passes}
 use Rattle.play.proofs.Tracking.{Kept}
-use Rattle.play.proofs.Pump.{plays_append}
+use Rattle.play.proofs.FairEntries.{plays_append}
 use Rattle.play.proofs.CalmAsked.{AllCalm}
 use Rattle.play.proofs.CompleteGrows.{Grows, grows_refl, grows_on, used_same, between}
 use Rattle.play.proofs.CompleteTelling.{Marked, HasTold, tells}

@@ -5,7 +5,7 @@ use Rattle.play.specs.Play.{World, plays}
 use Rattle.play.specs.Settle.{and_then, tallies, passes, rounding, completing}
 use Rattle.play.specs.Exact.{Joined, Swept}
 use Rattle.play.proofs.Tracking.{Kept}
-use Rattle.play.proofs.Pump.{plays_append}
+use Rattle.play.proofs.FairEntries.{plays_append}
 use Rattle.play.proofs.CalmRounds.{two_rounds}
 use Rattle.play.proofs.CompletePass.{Begun, Settled, settles}
 

@@ -17,10 +17,7 @@ use Rattle.play.specs.Settle.{goes_to, delivery, deliveries, and_then, pump, eno
 use Rattle.play.proofs.Sending.{Readable}
 use Rattle.play.proofs.Frame.{moved}
 use Rattle.play.proofs.Tracking.{Kept, kept_play}
-
-pub plays_append : (n : ℕ) (es fs : List Entry) (w : World) → plays n (es ++ fs) w ≡ plays n fs (plays n es w)
-plays_append n [] fs w = refl
-plays_append n (e ∷ es) fs w = plays_append n es fs (play n e w)
+use Rattle.play.proofs.FairEntries.{plays_append}
 
 -- what a house makes of a letter
 abbrev pub got : Letter → House → Outcome

@@ -1,16 +1,15 @@
 -- Eight cases, each a script with every answer and with what the houses then hold, written down from the rules. Played, each comes out as it is written.
-use Rattle.std.specs.Prelude.{◌≡◌, ℕ, Bool, true, false, cond, ◌&&◌, List, [], ◌∷◌, ◌++◌, map, length, Ok, Err, nat_lt, slice_index_or}
+use Rattle.std.specs.Prelude.{◌≡◌, ℕ, Bool, true, false, List, [], ◌∷◌, ◌++◌, map, length, Ok, Err}
 use Rattle.wire.specs.declared.call.Call.TheVariants as call
 use Rattle.wire.specs.declared.message.Message.TheVariants as message
-use Rattle.wire.specs.declared.refusal.Refusal.TheVariants.{Malformed}
 use Rattle.wire.specs.Names.{house, name}
 use Rattle.wire.specs.Refusals.{number_of}
 use Rattle.tables.specs.Model.{Object}
 use Rattle.lines.specs.Listed.{Listed, line}
 use Rattle.lines.specs.Stamping.{stamp}
 use Rattle.rules.specs.House.{House, census}
-use Rattle.rules.specs.Step.{Letter, Said, letter, bytes_of, came, step, event_of}
-use Rattle.play.specs.Play.{World, Entry, calls, delivers, begin, play, plays}
+use Rattle.rules.specs.Step.{Letter, Said, letter, bytes_of}
+use Rattle.play.specs.Play.{World, Entry, calls, delivers, begin, play, answered, plays}
 use Rattle.play.specs.Settle.{below}
 
 -- what can be seen of a house: its census, its objects with their fields, its roots and its lines
@@ -33,20 +32,16 @@ pub data Turn : Type 0 where
   refused : Entry → ℕ → Turn
   shows : List Shown → Turn
 
--- What a house answers to an entry. A house that is none of the n, and a message that was never sent, are turned away.
-abbrev pub answer : ℕ → Entry → World → Said
-answer n (calls i c) w = cond (nat_lt i n) (step (w.house i) (event_of c)).answer (Err Malformed)
-answer n (delivers i m) w = cond (nat_lt i n && nat_lt m (length w.sent)) (step (w.house i) (came (slice_index_or w.sent m []))).answer (Err Malformed)
-
-abbrev pub answered : Entry → Said → Turn
-answered e (Ok ls) = sends e ls
-answered e (Err r) = refused e (number_of r)
+-- an entry with what the house answers to it
+abbrev pub turn_of : Entry → Said → Turn
+turn_of e (Ok ls) = sends e ls
+turn_of e (Err r) = refused e (number_of r)
 
 -- the same entries and looks, with what comes of them in place of what is written
 abbrev pub played : ℕ → List Turn → World → List Turn
 played n [] w = []
-played n (sends e ls ∷ ts) w = answered e (answer n e w) ∷ played n ts (play n e w)
-played n (refused e k ∷ ts) w = answered e (answer n e w) ∷ played n ts (play n e w)
+played n (sends e ls ∷ ts) w = turn_of e (answered n e w) ∷ played n ts (play n e w)
+played n (refused e k ∷ ts) w = turn_of e (answered n e w) ∷ played n ts (play n e w)
 played n (shows hs ∷ ts) w = shows (all_shown n w) ∷ played n ts w
 
 abbrev pub entries_of : List Turn → List Entry
