@@ -1,5 +1,5 @@
 ghost use Rattle.std.specs.Prelude.{◌≡◌};
-ghost use Rattle.node.specs.Recipients.{recipient_of};
+ghost use Rattle.node.specs.Recipients.{recipient_of, Elsewhere};
 
 use crate::sent::Recipient;
 use census::ASKER;
@@ -7,7 +7,8 @@ use wire::Message;
 
 // Whom a message is for, by what it says.
 pub fn goes_to(message: Message) -> Recipient
-    ensures { result ≡ recipient_of message }
+    ensures value { result ≡ recipient_of message }
+    ensures elsewhere { Elsewhere message result }
 {
     match message {
         Message::Ask { object, .. } | Message::Telling { object, .. } => {
