@@ -90,6 +90,8 @@ for arguments in '' '0' '5' 'x' '2 2'; do
     # shellcheck disable=SC2086
     try "rehearse refuses '$arguments'" refuses_arguments "$REHEARSE" $arguments
 done
+try "house refuses an argument that is no text" refuses_arguments "$HOUSE" $'\377' 2
+try "rehearse refuses an argument that is no text" refuses_arguments "$REHEARSE" $'2\200'
 try "lines of a megabyte" megabyte_of_digits
 try "bytes that are no text" garbled_bytes
 try "a last line without a newline" no_last_newline

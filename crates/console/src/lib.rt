@@ -7,7 +7,7 @@ mod orders;
 pub use orders::{follow, messages};
 use std::alloc::Global;
 use std::env;
-use std::io::{BufRead, BufReader, Write};
+use std::io::{BufRead, BufReader, ErrorKind, Write};
 use std::process::ExitCode;
 
 // Answers lines one by one.
@@ -18,8 +18,14 @@ pub trait Player {
 
 // The arguments as decimal numbers, or none where one of them is not.
 pub fn arguments(rt: &HostRuntime) -> anyhow::Result<Option<Vec<u64>>> {
+    let given = match env::args(rt) {
+        Ok(given) => given,
+        // one of them is no text
+        Err(error) if error.kind() == ErrorKind::InvalidData => return Ok(None),
+        Err(error) => return Err(error.into()),
+    };
     let mut numbers = Vec::new(rt.alloc());
-    for argument in env::args(rt)?.skip(1) {
+    for argument in given.skip(1) {
         let Some(number) = text::decimal_value(argument.as_bytes()) else {
             return Ok(None);
         };
