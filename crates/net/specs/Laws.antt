@@ -11,7 +11,7 @@ pub record Lawful : Type 0 where
   pub safe : AlwaysSafe
   -- from every world that entries lead to, the collector's own entries leave exactly what matters
   pub settles : AlwaysSettles
-  -- they send at most a word of each house to each other, a telling and an answer for each line, and two rounds; and each house tells at most once for each line, and once more
+  -- they send at most a word of each house to each other, a telling and an answer for each line, and two rounds; and all houses together tell at most once for each house and line, and once more for each house
   pub bounded : Bounded
   pub rounds : TwoRounds
   pub passes : FewPasses
