@@ -1,7 +1,7 @@
 -- A name that is told.
 use Rattle.std.proofs.Common.{◌≡◌, ℕ, suc, ◌+◌, ◌<◌, ◌≤◌, Bool, true, false, ◌||◌, eqb, ltb, List, [], ◌∷◌, length, sym, refl, ap, ◌∙◌, ⊎_elim, arith}
 use Rattle.std.specs.List.{insert}
-use Rattle.std.proofs.lemmas.Bool.{ltb-true, ltb-false, eqb-true, eqb-false, lt-ltb, le-ltb, and_parts, and_from, or_parts, or_right, or_from, both_ways, cond-true, cond-false, cond_both, cases_lt, cases_Bool, eq-eqb, ne_eqb}
+use Rattle.std.proofs.lemmas.Bool.{ltb-true, ltb-false, eqb-true, eqb-false, lt-ltb, le-ltb, and_parts, and_from, or_parts, or_right, or_from, both_ways, cond-true, cond-false, cond_both, cases_lt, cases_Bool, ne_eqb}
 use Rattle.tables.specs.Model.{is_in, above, rising, below}
 use Rattle.census.specs.Model.{Told, names, entered, entered_all, untold, unanswered}
 use Rattle.tables.proofs.Places.{above_out, above_less}
@@ -16,9 +16,6 @@ strictly a b l ne = omega arith
 module _ (o : ℕ) (t : Told) (ts : List Told) where
   pub entered_past : t.name < o → entered o (t ∷ ts) ≡ t ∷ entered o ts
   entered_past l = cond-true (ltb t.name o) _ _ (lt-ltb t.name o l)
-
-  pub entered_same : t.name ≡ o → entered o (t ∷ ts) ≡ t ∷ ts
-  entered_same e = cond-false (ltb t.name o) _ _ (le-ltb t.name o (omega arith)) ∙ cond-true (eqb t.name o) _ _ (eq-eqb t.name o e)
 
   pub entered_before : o < t.name → entered o (t ∷ ts) ≡ awaited o ∷ t ∷ ts
   entered_before l = cond-false (ltb t.name o) _ _ (le-ltb t.name o (omega arith)) ∙ cond-false (eqb t.name o) _ _ (ne_eqb t.name o (λ e. omega arith))

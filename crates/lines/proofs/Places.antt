@@ -8,14 +8,6 @@ use Rattle.lines.specs.Columns.{row, rows, model}
 use Rattle.lines.proofs.Rows.{rows_same, line_same}
 
 module _ (o j : ℕ) where
-  pub place_yes : (k : ℕ) (e : Listed) (es : List Listed) → is_of o j e ≡ true → place o j k (e ∷ es) ≡ Some k
-  unfolding place
-  place_yes k e es p = cond-true (is_of o j e) (Some k) (place o j (k + 1) es) p
-
-  pub place_no : (k : ℕ) (e : Listed) (es : List Listed) → is_of o j e ≡ false → place o j k (e ∷ es) ≡ place o j (k + 1) es
-  unfolding place
-  place_no k e es p = cond-false (is_of o j e) (Some k) (place o j (k + 1) es) p
-
   pub listed_place : (k : ℕ) (es : List Listed) → is_some (place o j k es) ≡ listed o j es
   unfolding place listed
   listed_place k [] = refl
