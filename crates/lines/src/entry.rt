@@ -9,7 +9,7 @@ use crate::table::Lines;
 use wire::{Census, House, Name, Refusal, Stamp};
 
 impl<'a> Lines<'a> {
-    // The empty list of house `home` among `houses` houses, sixteen at most, with as many places as each column has, 2,048 at most.
+    // The empty list of house `home` among `houses` houses, sixteen at most, in these columns, with as many places as each has, 2,048 at most.
     pub fn new(
         objects: &'a mut [u32],
         holders: &'a mut [u32],
@@ -23,6 +23,10 @@ impl<'a> Lines<'a> {
         ensures room { result.room ≡ room_in objects.old holders.old stamps.old censuses.old }
         ensures home { result.home ≡ home }
         ensures houses { result.houses ≡ min houses 16 }
+        ensures same_objects { (result.objects.ghost_name ≡ objects.entry.ghost_name) × (result.objects.now ≡ objects.old) }
+        ensures same_holders { (result.holders.ghost_name ≡ holders.entry.ghost_name) × (result.holders.now ≡ holders.old) }
+        ensures same_stamps { (result.stamps.ghost_name ≡ stamps.entry.ghost_name) × (result.stamps.now ≡ stamps.old) }
+        ensures same_censuses { (result.censuses.ghost_name ≡ censuses.entry.ghost_name) × (result.censuses.now ≡ censuses.old) }
     {
         let room = objects
             .len()
