@@ -1,4 +1,4 @@
-ghost use Rattle.std.specs.Prelude.{◌≡◌, ◌≤◌, true, ◌++◌, length, IfOk};
+ghost use Rattle.std.specs.Prelude.{◌≡◌, ◌≤◌, true, [], ◌++◌, length, is_ok, IfOk};
 ghost use Rattle.objects.specs.Calls.{heap_of};
 ghost use Rattle.tables.specs.Gathered.{Found};
 ghost use Rattle.objects.specs.Laws.{Sole, Well};
@@ -20,7 +20,8 @@ impl Objects {
         which: Which,
     ) -> Result<Vec<Name>, AllocError>
         requires { 1024 ≤ length marks.now }
-        ensures { IfOk result (λ v. Found which (heap_of self.now) (numbers from.now) marks.now (numbers v.items)) }
+        ensures value { IfOk result (λ v. Found which (heap_of self.now) (numbers from.now) marks.now (numbers v.items)) }
+        ensures none { Found which (heap_of self.now) (numbers from.now) marks.now [] → is_ok result ≡ true }
     {
         let mut out = Vec::new(heap);
         gather(&mut out, &self.roots, which)?;
@@ -29,20 +30,22 @@ impl Objects {
         Ok(out)
     }
 
-    // The references to other houses' objects that are met from the roots and the given names, each once, rising.
+    // The references to other houses' objects that are met from the roots and the given names, each once, rising. Where there is none no memory is asked for.
     pub fn in_use(&self, heap: Global, from: &[Name]) -> Result<Vec<Name>, AllocError>
         ensures names { IfOk result (λ v. Lists (numbers v.items) (FarInUse (heap_of self.now) (numbers from.now))) }
         ensures well { IfOk result (λ v. Well (heap_of self.now) (numbers from.now) → Well (heap_of self.now) (numbers v.items)) }
         ensures sole { IfOk result (λ v. Sole (numbers v.items) (FarInUse (heap_of self.now) (numbers from.now))) }
+        ensures none { Lists [] (FarInUse (heap_of self.now) (numbers from.now)) → is_ok result ≡ true }
     {
         self.references(heap, from, &self.met(from), Which::NotOf(self.home))
     }
 
-    // The names of a house's objects that are roots or in fields here, each once, rising.
+    // The names of a house's objects that are roots or in fields here, each once, rising. Where there is none no memory is asked for.
     pub fn references_of(&self, heap: Global, house: House) -> Result<Vec<Name>, AllocError>
         ensures names { IfOk result (λ v. Lists (numbers v.items) (Refers (heap_of self.now) house.0)) }
         ensures well { IfOk result (λ v. Well (heap_of self.now) (numbers v.items)) }
         ensures sole { IfOk result (λ v. Sole (numbers v.items) (Refers (heap_of self.now) house.0)) }
+        ensures none { Lists [] (Refers (heap_of self.now) house.0) → is_ok result ≡ true }
     {
         self.references(heap, &[], &[true; 1024], Which::Of(house))
     }
