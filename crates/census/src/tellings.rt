@@ -67,10 +67,11 @@ impl Tellings {
             .count()
     }
 
-    // All in use is told, and all that is not answered then is listed, rising. Where memory is wanting nothing changes.
+    // All in use is told, and all that is not answered then is listed, rising. Where memory is wanting nothing changes, and none is asked for where nothing is to be told or listed.
     pub(crate) fn tell(&mut self, in_use: &[Name]) -> Result<Vec<Name>, AllocError>
         ensures due { IfOk result (λ v. numbers v.items ≡ unanswered (entered_all (numbers in_use.now) (told_of self.old.entries.items))) }
         ensures after { told_of self.new.entries.items ≡ (if is_ok result then entered_all (numbers in_use.now) (told_of self.old.entries.items) else told_of self.old.entries.items) }
+        ensures quiet { length (untold (numbers in_use.now) (told_of self.old.entries.items)) + length (unanswered (told_of self.old.entries.items)) ≡ 0 → is_ok result ≡ true }
     {
         let mut due = self.room(in_use)?;
         self.enter_all(in_use);
@@ -84,6 +85,7 @@ impl Tellings {
         ensures told { OnOk result (vec_len self.new.entries + length (untold (numbers in_use.now) (told_of self.old.entries.items)) ≤ vec_capacity self.new.entries) }
         ensures empty { IfOk result (λ v. v.items ≡ []) }
         ensures due { IfOk result (λ v. length (unanswered (told_of self.old.entries.items)) + length (untold (numbers in_use.now) (told_of self.old.entries.items)) ≤ vec_capacity v) }
+        ensures quiet { length (untold (numbers in_use.now) (told_of self.old.entries.items)) + length (unanswered (told_of self.old.entries.items)) ≡ 0 → is_ok result ≡ true }
     {
         let more = self.count_untold(in_use);
         self.entries.reserve(more)?;
