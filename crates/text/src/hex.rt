@@ -1,4 +1,4 @@
-ghost use Rattle.std.specs.Prelude.{◌≡◌, ◌++◌, string_bytes, IfOk, OnOk};
+ghost use Rattle.std.specs.Prelude.{◌≡◌, ◌%◌, true, ◌++◌, length, string_bytes, is_ok, IfOk, OnOk};
 ghost use Rattle.text.specs.Hex.{byte_of, hex_of, items_of, hex_text, ReadsBack};
 
 use std::alloc::{AllocError, Global};
@@ -13,9 +13,10 @@ fn byte(high: u8, low: u8) -> Option<u8>
     u8::try_from(high * 16 + low).ok()
 }
 
-// The bytes that hexadecimal digits spell, or none where they are odd in number or not all digits.
+// The bytes that hexadecimal digits spell, or none where they are odd in number, for which no memory is asked for, or not all digits.
 pub fn read_hex(heap: Global, digits: &[u8]) -> Result<Option<Vec<u8>>, AllocError>
-    ensures { IfOk result (λ o. items_of o ≡ hex_of digits.now) }
+    ensures value { IfOk result (λ o. items_of o ≡ hex_of digits.now) }
+    ensures odd { length digits.now % 2 ≡ 1 → is_ok result ≡ true }
 {
     let (pairs, rest) = digits.as_chunks::<2>();
     if !rest.is_empty() {

@@ -1,10 +1,10 @@
-use Rattle.std.proofs.Common.{vec_items, sym, ap, ◌∙◌}
+use Rattle.std.proofs.Common.{vec_items, sym, refl, ap, ◌∙◌}
 use Rattle.text.specs.Hex.{after}
 use Rattle.text.proofs.Hexes.{spelled, after_nothing, even, odd, bad, both, ended}
 use Rattle.text.proofs.hex.read_hex.Goals as goal
 
 pub returns-then-not-is_empty : goal.returns-then-not-is_empty
-returns-then-not-is_empty c = sym (odd c.args.digits.now _ c.as_chunks.ensures.back_len c.if-not-is_empty.ensures)
+returns-then-not-is_empty c = record { value = sym (odd c.args.digits.now _ c.as_chunks.ensures.back_len c.if-not-is_empty.ensures); odd = λ _. refl }
 
 pub loop-high-init : goal.loop-high-init
 loop-high-init c =
@@ -15,7 +15,7 @@ loop-high-init c =
 
 pub returns-in_default : goal.returns-in_default
 returns-in_default c =
-    sym (c.loop-high.invariant ∙ bad (vec_items c.loop-high.out) c.as_chunks.result.0.now c.loop-high.high-index c.loop-high-test.true (sym c.in_default.ensures))
+    record { value = sym (c.loop-high.invariant ∙ bad (vec_items c.loop-high.out) c.as_chunks.result.0.now c.loop-high.high-index c.loop-high-test.true (sym c.in_default.ensures)); odd = λ _. refl }
 
 pub loop-high-preserved : goal.loop-high-preserved
 loop-high-preserved c =
@@ -23,4 +23,4 @@ loop-high-preserved c =
     ∙ both (vec_items c.loop-high.out) c.as_chunks.result.0.now c.loop-high.high-index (vec_items c.push.new.self) c.in-Some.byte c.loop-high-test.true (sym c.in-Some.ensures) c.in_ok-push.ensures.items
 
 pub returns : goal.returns
-returns c = sym (c.loop-high.invariant ∙ ended (vec_items c.loop-high.out) c.as_chunks.result.0.now c.loop-high.high-index c.loop-high-test.false)
+returns c = record { value = sym (c.loop-high.invariant ∙ ended (vec_items c.loop-high.out) c.as_chunks.result.0.now c.loop-high.high-index c.loop-high-test.false); odd = λ _. refl }
