@@ -81,12 +81,12 @@ many_references() {
 
 try "house is built" builds_program house 0 1
 try "rehearse is built" builds_program rehearse 1
-for arguments in '' '0' '0 0' '1 1' '0 17' 'a 2' '0 1 2' '-1 2'; do
+for arguments in '' '0' '0 0' '1 1' '0 17' 'a 2' '0 1 2' '-1 2' '0 x 1' '256 1' '0 257'; do
     # the words of the arguments are meant to be split
     # shellcheck disable=SC2086
     try "house refuses '$arguments'" refuses_arguments "$HOUSE" $arguments
 done
-for arguments in '' '0' '5' 'x' '2 2'; do
+for arguments in '' '0' '5' 'x' '2 2' 'x 2' '2 x' '257'; do
     # shellcheck disable=SC2086
     try "rehearse refuses '$arguments'" refuses_arguments "$REHEARSE" $arguments
 done
