@@ -50,6 +50,11 @@ no_last_newline() {
     printf 'house' | prints 'no 1' "$REHEARSE" 2
 }
 
+# More lines than 16 bits count: each of them is answered.
+many_lines() {
+    [ "$(yes house | head -n 70000 | "$REHEARSE" 1 | grep -c '^no 1$')" -eq 70000 ]
+}
+
 # 320 references of house 1 in the fields of 40 objects of house 0: each is told, and a word names them all.
 many_references() {
     local own far sent=0 script out
@@ -95,4 +100,5 @@ try "rehearse refuses an argument that is no text" refuses_arguments "$REHEARSE"
 try "lines of a megabyte" megabyte_of_digits
 try "bytes that are no text" garbled_bytes
 try "a last line without a newline" no_last_newline
+try "70,000 lines" many_lines
 try "320 references in use: a telling of each, and a word of all" many_references
