@@ -55,6 +55,28 @@ many_lines() {
     [ "$(yes house | head -n 70000 | "$REHEARSE" 1 | grep -c '^no 1$')" -eq 70000 ]
 }
 
+# A line is answered before the next one comes: a person may wait for it.
+answers_at_once() {
+    local line result=0
+    coproc PLAYED { exec "$1" 0 1; }
+    local program=$PLAYED_PID
+    # the descriptor outlives the program, the array does not
+    exec 9>&"${PLAYED[1]}" 8<&"${PLAYED[0]}"
+    # shellcheck disable=SC1083,SC2093
+    exec {PLAYED[1]}>&-
+    for _ in 1 2 3; do
+        echo 'make 0' >&9
+        if ! read -r -t 20 line <&8 || [ "$line" != 'no 1' ]; then
+            result=1
+            break
+        fi
+    done
+    exec 9>&-
+    wait "$program" || result=1
+    exec 8<&-
+    return "$result"
+}
+
 # 320 references of house 1 in the fields of 40 objects of house 0: each is told, and a word names them all.
 many_references() {
     local own far sent=0 script out
@@ -101,4 +123,5 @@ try "lines of a megabyte" megabyte_of_digits
 try "bytes that are no text" garbled_bytes
 try "a last line without a newline" no_last_newline
 try "70,000 lines" many_lines
+try "house answers each line before the next comes" answers_at_once "$HOUSE"
 try "320 references in use: a telling of each, and a word of all" many_references
