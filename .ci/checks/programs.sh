@@ -77,6 +77,19 @@ answers_at_once() {
     return "$result"
 }
 
+# What can't be read or written is no end of the input: one line on standard error, and a status other than 0.
+fails_to_read() {
+    local err
+    err=$("$@" 2>&1 >/dev/null <crates) && return 1
+    [ "$(printf '%s\n' "$err" | grep -c '^Error: ')" -eq 1 ]
+}
+
+fails_to_write() {
+    local err
+    err=$(echo 'make 0' | "$@" 2>&1 >/dev/full) && return 1
+    [ "$(printf '%s\n' "$err" | grep -c '^Error: ')" -eq 1 ]
+}
+
 # 320 references of house 1 in the fields of 40 objects of house 0: each is told, and a word names them all.
 many_references() {
     local own far sent=0 script out
@@ -124,4 +137,8 @@ try "bytes that are no text" garbled_bytes
 try "a last line without a newline" no_last_newline
 try "70,000 lines" many_lines
 try "house answers each line before the next comes" answers_at_once "$HOUSE"
+try "house can't read its input" fails_to_read "$HOUSE" 0 1
+try "rehearse can't read its input" fails_to_read "$REHEARSE" 1
+try "house can't write its output" fails_to_write "$HOUSE" 0 1
+try "rehearse can't write its output" fails_to_write "$REHEARSE" 1
 try "320 references in use: a telling of each, and a word of all" many_references
