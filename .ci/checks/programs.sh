@@ -90,6 +90,32 @@ fails_to_write() {
     [ "$(printf '%s\n' "$err" | grep -c '^Error: ')" -eq 1 ]
 }
 
+# Four houses with 1,024 objects each, whose eight fields name the object itself: one answer of a quarter of a megabyte.
+full_houses() {
+    local house number name script expected
+    script=$(
+        for house in 0 1 2 3; do
+            for number in $(seq 1024); do
+                name=$((number * 16 + house))
+                echo "$house make $number"
+                printf "$house link $name %s\n" $name $name $name $name $name $name $name $name
+                echo "$house drop $name"
+            done
+        done
+        echo show
+    )
+    expected=$(
+        for house in 0 1 2 3; do
+            echo "house $house census 0"
+            for number in $(seq 1024); do
+                name=$((number * 16 + house))
+                echo "object $name $name $name $name $name $name $name $name $name"
+            done
+        done
+    )
+    printf '%s\n' "$script" | prints "$expected" "$REHEARSE" 4
+}
+
 # 320 references of house 1 in the fields of 40 objects of house 0: each is told, and a word names them all.
 many_references() {
     local own far sent=0 script out
@@ -141,4 +167,5 @@ try "house can't read its input" fails_to_read "$HOUSE" 0 1
 try "rehearse can't read its input" fails_to_read "$REHEARSE" 1
 try "house can't write its output" fails_to_write "$HOUSE" 0 1
 try "rehearse can't write its output" fails_to_write "$REHEARSE" 1
+try "four full houses are shown" full_houses
 try "320 references in use: a telling of each, and a word of all" many_references
