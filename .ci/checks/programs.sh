@@ -116,6 +116,32 @@ full_houses() {
     printf '%s\n' "$script" | prints "$expected" "$REHEARSE" 4
 }
 
+# House 0 takes 600 references of house 1 and puts them into the fields of 75 objects: it tells each, and a word of 2,409 bytes names them all.
+house_with_many_references() {
+    local own far script expected
+    script=$(
+        for own in $(seq 75); do
+            echo "make $own"
+            for far in $(seq $((own * 8 - 7)) $((own * 8))); do
+                printf 'got 02%08x00%08x\n' $((far * 16 + 1)) "$far"
+                echo "link $((own * 16)) $((far * 16 + 1))"
+                echo "drop $((far * 16 + 1))"
+            done
+        done
+        printf 'tell\nword 1\n'
+    )
+    expected=$(
+        for far in $(seq 600); do
+            printf '0400000000%08x00\n' $((far * 16 + 1))
+        done
+        printf '030001000002580258'
+        for far in $(seq 600); do
+            printf '%08x' $((far * 16 + 1))
+        done
+    )
+    printf '%s\n' "$script" | prints "$expected" "$HOUSE" 0 2
+}
+
 # 320 references of house 1 in the fields of 40 objects of house 0: each is told, and a word names them all.
 many_references() {
     local own far sent=0 script out
@@ -168,4 +194,5 @@ try "rehearse can't read its input" fails_to_read "$REHEARSE" 1
 try "house can't write its output" fails_to_write "$HOUSE" 0 1
 try "rehearse can't write its output" fails_to_write "$REHEARSE" 1
 try "four full houses are shown" full_houses
+try "house with 600 references in use: a telling of each, and a word of all" house_with_many_references
 try "320 references in use: a telling of each, and a word of all" many_references
