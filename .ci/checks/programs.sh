@@ -142,7 +142,8 @@ house_with_many_references() {
     printf '%s\n' "$script" | prints "$expected" "$HOUSE" 0 2
 }
 
-# 320 references of house 1 in the fields of 40 objects of house 0: each is told, and a word names them all.
+# 320 references of house 1 in the fields of 40 objects of house 0: each is told, a word names them all, and a round is answered while they are in use.
+# Then all of it is settled: the messages are numbered from 1 to 1,613, each once.
 many_references() {
     local own far sent=0 script out
     script=$(
@@ -162,12 +163,20 @@ many_references() {
         echo "0 tell"
         echo "0 word 1"
         echo "deliver $((sent + 321))"
+        echo "0 round"
+        echo "deliver $((sent + 322))"
+        echo "settle"
         echo "0 got $(printf 'ff%.0s' $(seq 2000))"
     )
     out=$(printf '%s\n' "$script" | "$REHEARSE" 2) || return 1
-    [ "$(printf '%s\n' "$out" | grep -c '^[0-9]* 04')" -eq 320 ] &&
+    [ "$(printf '%s\n' "$out" | grep -c '^[0-9]* 0400000000')" -eq 320 ] &&
         [ "$(printf '%s\n' "$out" | sed -n 's/^961 //p' | cut -c1-18)" = "030001000001400140" ] &&
         [ "$(printf '%s\n' "$out" | sed -n 's/^961 //p' | tr -d '\n' | wc -c)" -eq $((2 * (9 + 4 * 320))) ] &&
+        [ "$(printf '%s\n' "$out" | sed -n 's/^96[34] //p')" = $'070000000000000001000000000000\n070000000000000001010100000000' ] &&
+        [ "$(printf '%s\n' "$out" | grep -c '^[0-9]* 0400000001')" -eq 320 ] &&
+        [ "$(printf '%s\n' "$out" | sed -n 's/^1609 //p')" = "070000000100000001010100000140" ] &&
+        [ "$(printf '%s\n' "$out" | sed -n 's/^1613 //p')" = "0800000001" ] &&
+        [ "$(printf '%s\n' "$out" | sed '$d' | cut -d' ' -f1)" = "$(seq 1613)" ] &&
         [ "$(printf '%s\n' "$out" | tail -n 1)" = "no 1" ]
 }
 
@@ -195,4 +204,4 @@ try "house can't write its output" fails_to_write "$HOUSE" 0 1
 try "rehearse can't write its output" fails_to_write "$REHEARSE" 1
 try "four full houses are shown" full_houses
 try "house with 600 references in use: a telling of each, and a word of all" house_with_many_references
-try "320 references in use: a telling of each, and a word of all" many_references
+try "320 references in use: a telling of each, a word of all, a round and the settling" many_references
