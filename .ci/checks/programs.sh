@@ -50,6 +50,12 @@ no_last_newline() {
     printf 'house' | prints 'no 1' "$REHEARSE" 2
 }
 
+# A call, a message and bytes for a house that there is not: each is refused, and no house is changed.
+no_such_house() {
+    printf '0 make 1\n0 ask 16 1\n2 make 1\n2 deliver 1\n3 got 02000000100100000001\nshow\n' |
+        prints $'1 01000000100001\nno 1\nno 1\nno 1\nhouse 0 census 0\nobject 16\nroot 16\nhouse 1 census 0' "$REHEARSE" 2
+}
+
 # More lines than 16 bits count: each of them is answered.
 many_lines() {
     [ "$(yes house | head -n 70000 | "$REHEARSE" 1 | grep -c '^no 1$')" -eq 70000 ]
@@ -196,6 +202,7 @@ try "rehearse refuses an argument that is no text" refuses_arguments "$REHEARSE"
 try "lines of a megabyte" megabyte_of_digits
 try "bytes that are no text" garbled_bytes
 try "a last line without a newline" no_last_newline
+try "a house that there is not" no_such_house
 try "70,000 lines" many_lines
 try "house answers each line before the next comes" answers_at_once "$HOUSE"
 try "house can't read its input" fails_to_read "$HOUSE" 0 1
