@@ -68,11 +68,10 @@ impl Head {
         };
         let (standing, due) = self.standing.tell(&in_use);
         self.standing = standing;
-        // with `map` and `map_err` it gets no proof
-        match due {
-            Ok(names) => (self, Ok(Sent::Tellings(census, tables.list.home, names))),
-            Err(_) => (self, Err(Fault::NoMemory)),
-        }
+        let answer = due
+            .map(|names| Sent::Tellings(census, tables.list.home, names))
+            .map_err(Fault::from);
+        (self, answer)
     }
 
     // A round of a census: the house says whether it is calm.
