@@ -21,10 +21,47 @@ breaks_off() {
         cmp -s -n "$(wc -c <"$SCRATCH/out")" "$SCRATCH/out" "$SCRATCH/$whole"
 }
 
+# A round comes to a house with 7,168 references in use. It lists them to say whether it is calm, and no other line wants as much memory:
+# the long line before them takes what a program gets when it starts.
+{
+    printf '#'
+    head -c 60000 /dev/zero | tr '\0' '.'
+    awk 'BEGIN {
+        for (own = 1; own <= 1024; own++) {
+            printf "\nmake %d\nlink %d %d\ndrop %d", own, own * 16, own * 16 - 16, own * 16 - 16
+            for (far = own * 7 - 6; far <= own * 7; far++) {
+                printf "\ngot 02%08x00%08x", far * 16 + 1, far
+                printf "\nlink %d %d\ndrop %d", own * 16, far * 16 + 1, far * 16 + 1
+            }
+        }
+        print "\ngot 060000000100000001\nmake 1"
+    }'
+} >"$SCRATCH/round"
+"$HOUSE" 0 2 <"$SCRATCH/round" >"$SCRATCH/answered"
+head -n -2 "$SCRATCH/answered" >"$SCRATCH/before"
+
+# From the least limit on with which a house answers a round where it has one reference: this one is answered too, or the program breaks off, and at least once just there.
+breaks_off_at_a_round() {
+    local least=1000 limit hits=0
+    until (ulimit -v "$least" && exec "$HOUSE" 0 2) <<<$'got 02000000110000000001\ngot 060000000100000001' >/dev/null 2>&1; do
+        least=$((least + 32))
+        [ "$least" -le 16000 ] || return 1
+    done
+    for ((limit = least + 16; limit <= least + 400; limit += 32)); do
+        if breaks_off "$limit" round answered "$HOUSE" 0 2; then
+            cmp -s "$SCRATCH/out" "$SCRATCH/before" && hits=$((hits + 1))
+        elif [ -s "$SCRATCH/err" ] || ! cmp -s "$SCRATCH/out" "$SCRATCH/answered"; then
+            return 1
+        fi
+    done
+    [ "$hits" -gt 0 ]
+}
+
 for limit in 2500 4000 8000 16000; do
     try "rehearse with $limit KiB of memory" breaks_off "$limit" rehearsal rehearsed "$REHEARSE" 2
 done
 for limit in 4000 8000; do
     try "house with $limit KiB of memory" breaks_off "$limit" orders ordered "$HOUSE" 0 2
 done
+try "house lacks memory for a round" breaks_off_at_a_round
 rm -rf "$SCRATCH"
