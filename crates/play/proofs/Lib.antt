@@ -45,3 +45,4 @@ pub mod BoundHeld
 pub mod BoundCalls
 pub mod BoundPasses
 pub mod Bounds
+pub mod Careless

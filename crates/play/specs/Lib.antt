@@ -5,3 +5,4 @@ pub mod Settle
 pub mod Exact
 pub mod Bound
 pub mod Cases
+pub mod Careless
