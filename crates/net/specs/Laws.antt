@@ -5,6 +5,7 @@ use Rattle.play.specs.Promise.{AlwaysSafe}
 use Rattle.play.specs.Exact.{AlwaysSettles, NothingLeft}
 use Rattle.play.specs.Bound.{Bounded, TwoRounds, FewPasses, FewLines}
 use Rattle.play.specs.Cases.{AllCases, GoesOn}
+use Rattle.play.specs.Careless.{CarelessLoses}
 
 pub record Lawful : Type 0 where
   -- over every list of entries and every number of houses: whatever matters is there, and its home has a line for each house that has it
@@ -25,3 +26,5 @@ pub record Lawful : Type 0 where
   pub sound : KeepsSound
   -- without the care at the second round something that matters may be lost
   pub needed : StirredNeeded
+  -- and by the executable step: houses that forget that they took something lose it, by entries that lose nothing where they remember it
+  pub forgetful : CarelessLoses

@@ -9,6 +9,7 @@ use Rattle.play.proofs.Exactness.{always_settles, always_left}
 use Rattle.play.proofs.Bounds.{bounded, few_passes, few_lines}
 use Rattle.play.proofs.BoundCalls.{two_rounds}
 use Rattle.play.proofs.Cases.{all_cases, goes_on}
+use Rattle.play.proofs.Careless.{careless_loses}
 use Rattle.rules.proofs.Sound.{sound_step}
 use Rattle.promise.proofs.Needed.{stirred_needed}
 use Rattle.net.proofs.Rows.{row_count, row_begins}
@@ -28,6 +29,7 @@ lawful =
       goes_on = goes_on;
       sound = sound_step;
       needed = stirred_needed;
+      forgetful = careless_loses;
     }
 
 begins : (c : goal.After-new-2) → world_of (vec_items c.in_ok-houses.houses) (map items_in (vec_items c.new-2.result)) ≡ begin c.args.count
