@@ -117,10 +117,7 @@ impl Head {
             return Err(Refusal::WrongHouse.into());
         }
         let names = objects.references_of(self.heap, to)?;
-        // there are at most 8,448 of them, so the count fits
-        let Ok(count) = u16::try_from(names.len()) else {
-            return Err(Fault::NoMemory);
-        };
+        let count = names.len() as u16;
         let bytes = name_bytes(self.heap, &names)?;
         let message = Message::Word {
             from,

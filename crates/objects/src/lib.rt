@@ -12,5 +12,6 @@ mod references;
 mod store;
 
 pub use fault::Fault;
+pub use references::MOST_REFERENCES;
 pub use store::Objects;
 pub use tables::Object;

@@ -1,4 +1,4 @@
-ghost use Rattle.std.specs.Prelude.{◌≡◌, ◌≤◌, true, [], ◌++◌, length, is_ok, IfOk};
+ghost use Rattle.std.specs.Prelude.{◌≡◌, ◌+◌, ◌≤◌, true, [], ◌++◌, length, is_ok, IfOk, vec_len};
 ghost use Rattle.objects.specs.Calls.{heap_of};
 ghost use Rattle.tables.specs.Gathered.{Found};
 ghost use Rattle.objects.specs.Laws.{Sole, Well};
@@ -9,6 +9,9 @@ use crate::store::Objects;
 use std::alloc::{AllocError, Global};
 use tables::{Which, gather, gather_fields};
 use wire::{House, Name};
+
+// The most references that a house has: 256 roots, and eight fields of each of 1,024 objects.
+pub const MOST_REFERENCES: usize = 8448;
 
 impl Objects {
     // The names that are looked for among the roots, the given names and the fields of marked objects, each once, rising.
@@ -21,6 +24,7 @@ impl Objects {
     ) -> Result<Vec<Name>, AllocError>
         requires { 1024 ≤ length marks.now }
         ensures value { IfOk result (λ v. Found which (heap_of self.now) (numbers from.now) marks.now (numbers v.items)) }
+        ensures few { IfOk result (λ v. vec_len v ≤ length from.now + MOST_REFERENCES) }
         ensures none { Found which (heap_of self.now) (numbers from.now) marks.now [] → is_ok result ≡ true }
     {
         let mut out = Vec::new(heap);
@@ -45,6 +49,7 @@ impl Objects {
         ensures names { IfOk result (λ v. Lists (numbers v.items) (Refers (heap_of self.now) house.0)) }
         ensures well { IfOk result (λ v. Well (heap_of self.now) (numbers v.items)) }
         ensures sole { IfOk result (λ v. Sole (numbers v.items) (Refers (heap_of self.now) house.0)) }
+        ensures few { IfOk result (λ v. vec_len v ≤ MOST_REFERENCES) }
         ensures none { Lists [] (Refers (heap_of self.now) house.0) → is_ok result ≡ true }
     {
         self.references(heap, &[], &[true; 1024], Which::Of(house))

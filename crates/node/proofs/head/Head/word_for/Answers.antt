@@ -18,8 +18,7 @@ returns c =
     let other : eqb j t.home ≡ false = search rules in
     let refs : numbers (vec_items c.in_ok-names.names) ≡ references_of j t = sym (c.in_ok-names.ensures.sole (references_of j t) (refers t j)) in
     let bytes : vec_items c.in_ok-bytes.bytes ≡ bytes_of (references_of j t) = c.in_ok-bytes.ensures ∙ ap (λ ns. bytes_of (numbers ns)) c.deref.ensures.value ∙ ap bytes_of refs in
-    let size = c.in-Ok.ensures in
     let long = c.in_ok-names.names.ok.0 in
-    let count : c.in-Ok.count ≡ length (references_of j t) = size.1 ∙ c.len.ensures ∙ long ∙ sym (length-map (vec_items c.in_ok-names.names) number) ∙ ap length refs in
+    let count : c.len-count.result ≡ length (references_of j t) = c.len-count.ensures ∙ long ∙ sym (length-map (vec_items c.in_ok-names.names) number) ∙ ap length refs in
     λ ls.
-    word_step (house_of c.args.self.now c.args.objects.now ls) j c.home-from.result c.args.to c.seen_from.result c.in-Ok.count (vec_items c.in_ok-bytes.bytes) there other (ap house c.home-from.ensures) refl c.seen_from.ensures count bytes
+    word_step (house_of c.args.self.now c.args.objects.now ls) j c.home-from.result c.args.to c.seen_from.result c.len-count.result (vec_items c.in_ok-bytes.bytes) there other (ap house c.home-from.ensures) refl c.seen_from.ensures count bytes

@@ -16,7 +16,7 @@ returns-in_err-ok_or c =
     let named = h.named in
     let held = h.held in
     let q = missed c.first.result NoField _ (sym c.in_err-ok_or.was ∙ c.ok_or.ensures.value) in
-    let out : is_in p (fields_of o (heap_of s).objects) ≡ false = ap (is_in p) (f ∙ sym c.fields.ensures) ∙ first_none p c.fields.result.now (q.0 ∙ c.first.ensures) in
+    let out : is_in p (fields_of o (heap_of s).objects) ≡ false = ap (is_in p) (f ∙ sym c.fields.ensures.value) ∙ first_none p c.fields.result.now (q.0 ∙ c.first.ensures) in
     let v : Err NoField ≡ load_answer o p (heap_of s) = search rules in
     let w : Err c.in_err-ok_or.field-0.0 ≡ load_answer o p (heap_of s) = ap Err q.1 ∙ v in
     record { value = search rules; after = refused_so (load_answer o p (heap_of s)) NoField (rooted p (heap_of s)) (heap_of s) v }
@@ -31,7 +31,7 @@ returns c =
     let named = h.named in
     let held = h.held in
     let t = first_there p c.fields.result.now _ (hit c.first.result NoField _ (sym c.in_ok-ok_or.was ∙ c.ok_or.ensures.value) ∙ c.first.ensures) in
-    let there : is_in p (fields_of o (heap_of s).objects) ≡ true = ap (is_in p) (f ∙ sym c.fields.ensures) ∙ t.1 in
+    let there : is_in p (fields_of o (heap_of s).objects) ≡ true = ap (is_in p) (f ∙ sym c.fields.ensures.value) ∙ t.1 in
     let e : root_answer p (heap_of s) ≡ load_answer o p (heap_of s) = search rules in
     record {
       value = c.add_root.ensures.value ∙ e;

@@ -23,5 +23,6 @@ returns c =
       names = lists;
       well = IfOk-weaker c.references.result (λ v. Lists (numbers (vec_items v)) (Refers (heap_of s) c.args.house.0)) (λ v. Well (heap_of s) (numbers (vec_items v))) (λ v l o e. refers_well (heap_of s) s.well_roots s.well_fields o (l.only o e).1) lists;
       sole = IfOk-weaker c.references.result (λ v. Lists (numbers (vec_items v)) (Refers (heap_of s) c.args.house.0)) (λ v. Sole (numbers (vec_items v)) (Refers (heap_of s) c.args.house.0)) (λ v l. sole (numbers (vec_items v)) (Refers (heap_of s) c.args.house.0) l) lists;
+      few = c.references.ensures.few;
       none = λ l. c.references.ensures.none (sole all (Refers (heap_of s) c.args.house.0) (refers_lists (heap_of s) c.args.house 1024 all (omega (arith, length-map (vec_items s.objects) object_of, s.objects.ok.0, s.few)) refl) [] l);
     }

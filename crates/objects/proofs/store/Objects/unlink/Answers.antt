@@ -19,7 +19,7 @@ returns-in_err-place c =
     let named = h.named in
     let held = h.held in
     let q = missed c.first.result NoField _ (sym c.in_err-place.was ∙ c.ok_or.ensures.value) in
-    let out : is_in p (fields_of o (heap_of s).objects) ≡ false = ap (is_in p) (f ∙ sym c.fields.ensures) ∙ first_none p c.fields.result.now (q.0 ∙ c.first.ensures) in
+    let out : is_in p (fields_of o (heap_of s).objects) ≡ false = ap (is_in p) (f ∙ sym c.fields.ensures.value) ∙ first_none p c.fields.result.now (q.0 ∙ c.first.ensures) in
     let v : Err NoField ≡ unlink_answer o p (heap_of s) = search rules in
     let w : Err c.in_err-place.field-0.0 ≡ unlink_answer o p (heap_of s) = ap Err q.1 ∙ v in
     record { value = search rules; after = refused_so (unlink_answer o p (heap_of s)) NoField (unlinked_from o p (heap_of s)) (heap_of s) v }
@@ -63,7 +63,7 @@ returns c =
     let named = h.named in
     let held = h.held in
     let ns = c.fields.result.now in
-    let same : numbers ns ≡ fields_of o (heap_of s).objects = c.fields.ensures ∙ sym (held_fields s o p at h c.index.result.now c.index.ensures) in
+    let same : numbers ns ≡ fields_of o (heap_of s).objects = c.fields.ensures.value ∙ sym (held_fields s o p at h c.index.result.now c.index.ensures) in
     let t = first_there p ns place (hit c.first.result NoField place (sym c.in_ok-place.was ∙ c.ok_or.ensures.value) ∙ c.first.ensures) in
     let there : is_in p (fields_of o (heap_of s).objects) ≡ true = ap (is_in p) (sym same) ∙ t.1 in
     let v : Ok tt ≡ unlink_answer o p (heap_of s) = search rules in

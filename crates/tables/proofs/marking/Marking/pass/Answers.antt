@@ -31,7 +31,7 @@ loop-i-preserved c =
       added : c.if-self-i.added ≡ ltb (count ms) (count after.marks.now);
     } = elim c.if-self-i.branch [
       | then-self-i w ↦ (
-          let fs : numbers w.fields.result.now ≡ get_or fss i [] = w.fields.ensures ∙ sym (get_or-map fields_in xs i x [] c.loop-i-test.true ∙ ap fields_in (sym c.index-objects-i.is)) in
+          let fs : numbers w.fields.result.now ≡ get_or fss i [] = w.fields.ensures.value ∙ sym (get_or-map fields_in xs i x [] c.loop-i-test.true ∙ ap fields_in (sym c.index-objects-i.is)) in
           record {
             kept = ap (λ t. t.objects) w.self-is ∙ w.spread.ensures.kept ∙ inv.kept;
             same_reference = ap (λ t. t.marks.ghost_name) w.self-is ∙ w.spread.ensures.same_reference ∙ inv.same_reference;
