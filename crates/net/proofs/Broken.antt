@@ -8,8 +8,8 @@ use Rattle.net.specs.Settling.{BrokenOff, short, lost, later}
 
 pub broken_front : (n : ℕ) (es fs : List Entry) {w v : World} → BrokenOff n es w v → BrokenOff n (es ++ fs) w v
 broken_front n [] fs {w = w} {v = v} b = elim b [ ]
-broken_front n (e ∷ es) fs short = short
-broken_front n (e ∷ es) fs lost = lost
+broken_front n (e ∷ es) fs (short a) = short a
+broken_front n (e ∷ es) fs (lost a) = lost a
 broken_front n (e ∷ es) fs (later b) = later (broken_front n es fs b)
 
 pub broken_after : (n : ℕ) (es fs : List Entry) (w : World) {v : World} → BrokenOff n fs (plays n es w) v → BrokenOff n (es ++ fs) w v

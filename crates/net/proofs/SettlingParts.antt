@@ -39,8 +39,8 @@ yes z = absurd (false≢true z)
 went : (r : Played) (e : Entry) (t u : Net) → Plays r (count t) e (world t) (world u) → faithful u ≡ cond (is_lost r) false (faithful t) → count u ≡ count t → Along (had_memory r) (λ n w. e ∷ []) t u
 went (Ok z) e t u p f k = record { houses = k; played = λ _. p.1; faithful = λ _. f; broken = λ z. no z }
 went (Err (Fault (Refused x))) e t u p f k = record { houses = k; played = λ _. p.1 ∙ sym (refused_same (count t) e (world t) x p.0); faithful = λ _. f; broken = λ z. no z }
-went (Err (Fault NoMemory)) e t u p f k = record { houses = k; played = λ z. yes z; faithful = λ _. f; broken = λ _. subst (λ (v : World). BrokenOff (count t) (e ∷ []) (world t) v) (sym p.1) short }
-went (Err Lost) e t u p f k = record { houses = k; played = λ z. yes z; faithful = λ z. yes z; broken = λ _. subst (λ (v : World). BrokenOff (count t) (e ∷ []) (world t) v) (sym p.1) lost }
+went (Err (Fault NoMemory)) e t u p f k = record { houses = k; played = λ z. yes z; faithful = λ _. f; broken = λ _. subst (λ (v : World). BrokenOff (count t) (e ∷ []) (world t) v) (sym p.1) (short p.0) }
+went (Err Lost) e t u p f k = record { houses = k; played = λ z. yes z; faithful = λ z. yes z; broken = λ _. subst (λ (v : World). BrokenOff (count t) (e ∷ []) (world t) v) (sym p.1) (lost p.0) }
 
 pub along_one : (b : Bool) (r : Played) (e : Entry) (t u : Net) → b ≡ had_memory r → Plays r (count t) e (world t) (world u) → faithful u ≡ cond (is_lost r) false (faithful t) → count u ≡ count t → Along b (λ n w. e ∷ []) t u
 along_one b r e t u q p f k = subst (λ (x : Bool). Along x (λ n w. e ∷ []) t u) (sym q) (went r e t u p f k)

@@ -1,15 +1,15 @@
 -- What a part of settling does to a net, and what the whole of it leaves.
-use Rattle.std.specs.Prelude.{◌≡◌, ℕ, ◌+◌, ◌<◌, ◌≤◌, Bool, true, false, List, [], ◌∷◌, length, Some, None, Ok, Err, Option, Result}
+use Rattle.std.specs.Prelude.{◌≡◌, ℕ, ◌+◌, ◌<◌, ◌≤◌, Bool, true, false, List, [], ◌∷◌, length, Some, None, Ok, Err, Option, Result, ◌≢◌}
 use Rattle.wire.specs.declared.refusal.Refusal.TheVariants.{OutOfNumbers}
 use Rattle.objects.specs.declared.fault.Fault.{Fault}
 use Rattle.objects.specs.declared.fault.Fault.TheVariants.{Refused, NoMemory}
 use Rattle.node.specs.declared.sent.Recipient.{Recipient}
 use Rattle.node.specs.declared.sent.Recipient.TheVariants.{One, Every}
-use Rattle.play.specs.Play.{World, Entry, play, plays}
+use Rattle.play.specs.Play.{World, Entry, play, plays, written, answered}
 use Rattle.play.specs.Settle.{below, above, settling}
 use Rattle.play.specs.Exact.{Settles}
 use Rattle.play.specs.Bound.{line_count, most}
-use Rattle.net.specs.Nets.{count, world, unsent}
+use Rattle.net.specs.Nets.{count, world, unsent, wanting}
 use Rattle.net.specs.declared.net.Net.{Net}
 
 -- entries, computed from the number of houses and the world
@@ -18,8 +18,8 @@ Script = ℕ → World → List Entry
 
 -- These entries were played from w on, but not all: at v the next one finds no memory, or the messages of the last one are lost.
 pub data BrokenOff (n : ℕ) : List Entry → World → World → Type 0 where
-  short : {e : Entry} {es : List Entry} {w : World} → BrokenOff n (e ∷ es) w w
-  lost : {e : Entry} {es : List Entry} {w : World} → BrokenOff n (e ∷ es) w (unsent w (play n e w))
+  short : {e : Entry} {es : List Entry} {w : World} → wanting n e w ≡ true → BrokenOff n (e ∷ es) w w
+  lost : {e : Entry} {es : List Entry} {w : World} → (written (answered n e w) ≢ []) → BrokenOff n (e ∷ es) w (unsent w (play n e w))
   later : {e : Entry} {es : List Entry} {w v : World} → BrokenOff n es (play n e w) v → BrokenOff n (e ∷ es) w v
 
 -- from t to u: the houses are so many as before, and these entries were played, and none was lost; or it broke off

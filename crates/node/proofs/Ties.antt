@@ -15,7 +15,7 @@ use Rattle.node.specs.Shown.{Answer, Gives, Steps, allocates, house_of}
 same_house : (b : Bool) (a : Answer) (h g : House) (x : Outcome) → Fair h x → Gives b a x h g → (g.heap.home ≡ h.heap.home) × (g.heap.houses ≡ h.heap.houses)
 same_house b (Ok s) h g x f e = (sym (ap (λ y. y.house.heap.home) e) ∙ f.home, sym (ap (λ y. y.house.heap.houses) e) ∙ f.houses)
 same_house b (Err (Refused r)) h g x f e = (sym (ap (λ y. y.house.heap.home) e) ∙ f.home, sym (ap (λ y. y.house.heap.houses) e) ∙ f.houses)
-same_house b (Err NoMemory) h g x f e = (ap (λ y. y.heap.home) e.1, ap (λ y. y.heap.houses) e.1)
+same_house b (Err NoMemory) h g x f e = (ap (λ y. y.heap.home) e.2, ap (λ y. y.heap.houses) e.2)
 
 pub still_tied : (e : Event) (h : Head) (os qs : Objects) (ls : Lines) (r : Head × Answer) → Tied os ls → Steps r e (house_of h os ls) qs ls → Tied qs ls
 still_tied e h os qs ls r t s =

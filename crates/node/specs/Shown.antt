@@ -1,5 +1,5 @@
 -- What a house in memory stands for, and what its answers say.
-use Rattle.std.specs.Prelude.{◌≡◌, Bool, true, false, List, [], ◌∷◌, map, Ok, Err, vec_items, Result}
+use Rattle.std.specs.Prelude.{◌≡◌, Bool, true, false, List, [], ◌∷◌, map, is_ok, Ok, Err, vec_items, Result}
 use Rattle.wire.specs.declared.refusal.Refusal.{Refusal}
 use Rattle.wire.specs.declared.message.Message.{Message}
 use Rattle.wire.specs.declared.message.Message.TheVariants as message
@@ -48,7 +48,7 @@ Answer = Result Sent Fault
 abbrev pub Gives : Bool → Answer → Outcome → House → House → Type 0
 Gives allocates (Ok s) x before after = x ≡ record { answer = Ok (letters s); house = after }
 Gives allocates (Err (Refused e)) x before after = x ≡ record { answer = Err e; house = after }
-Gives allocates (Err NoMemory) x before after = (allocates ≡ true) × (after ≡ before)
+Gives allocates (Err NoMemory) x before after = (allocates ≡ true) × (is_ok x.answer ≡ true) × (after ≡ before)
 
 -- to a round a house answers by all that it uses
 abbrev pub is_round : Message → Bool

@@ -1,18 +1,22 @@
 -- What a search for names finds.
-use Rattle.std.proofs.Common.{◌≡◌, ℕ, zero, suc, ◌%◌, ◌<◌, ◌≤◌, Bool, true, false, eqb, ◌⊎◌, List, [], ◌∷◌, ◌++◌, length, get_or, replicate, sym, refl, ap, ◌∙◌, subst, inl, inr, ⊎_elim, arith}
+use Rattle.std.proofs.Common.{◌≡◌, ℕ, zero, suc, ◌%◌, ◌<◌, ◌≤◌, Bool, true, false, ◌&&◌, eqb, ◌⊎◌, List, [], ◌∷◌, ◌++◌, length, get_or, replicate, sym, refl, ap, ◌∙◌, subst, inl, inr, ⊎_elim, arith}
+use Rattle.std.specs.List.{list_all}
 use Rattle.std.proofs.lemmas.List.{append-nil}
 use Rattle.std.proofs.lemmas.Bool.{or_cases, or_left, or_right, both_ways, not-true, not_from_false, eqb-true, eqb-false, eq-eqb, ne_eqb}
 use Rattle.wire.specs.declared.names.House.{House}
 use Rattle.tables.specs.declared.object.Object.{Object}
 use Rattle.tables.specs.declared.which.Which.{Which}
 use Rattle.tables.specs.declared.which.Which.TheVariants.{Of, NotOf}
-use Rattle.tables.specs.Model.{Heap, is_in, fields_of, rising}
+use Rattle.tables.specs.Model.{Heap, is_in, fields_of, names, rising}
 use Rattle.tables.specs.Met.{Met, start, field, Lists, FarInUse, Refers, everywhere}
 use Rattle.tables.specs.Marks.{kept_by, Marked, field_lists, fields_in}
-use Rattle.tables.specs.Gathered.{wanted, gathered, Found}
+use Rattle.tables.specs.Gathered.{wanted, gathered, all_there, Found}
 use Rattle.tables.specs.Shown.{objects_of, names_in}
 use Rattle.tables.proofs.Reach.{is_in_append, fields_place, present_place, place_present}
-use Rattle.tables.proofs.Gathers.{rising_gathered, gathered_old, gathered_new, gathered_why}
+use Rattle.tables.proofs.Gathers.{rising_gathered, gathered_old, gathered_new, gathered_why, gathered_all}
+use Rattle.objects.specs.Executed.{names_in_use}
+use Rattle.objects.proofs.Laws.{sole}
+use Rattle.objects.proofs.Reached.{in_use}
 
 -- a field of a marked object, and the place that it stands at
 everywhere_why : (o : ℕ) (ms : List Bool) (xs : List Object) → is_in o (everywhere (kept_by ms (objects_of xs))) ≡ true → (k : ℕ) × (k < length xs) × (get_or ms k false ≡ true) × (is_in o (get_or (field_lists xs) k []) ≡ true)
@@ -122,3 +126,28 @@ refers_lists h house n os l f =
           (or_cases (is_in o h.roots) (is_in o (everywhere h.objects)) (sym (is_in_append o h.roots (everywhere h.objects)) ∙ p.1)),
     ))
     (found_lists (Of house) h [] (replicate n true) os f)
+
+-- the far references in use all stand in a list if the roots that are far do, the given names and the fields of what is met
+pub far_stand : (h : Heap) (home : House) (xs : List Object) (from ts : List ℕ) (ms : List Bool) → h.home ≡ home.0 → h.objects ≡ objects_of xs → rising (names_in xs) ≡ true → rising (names h.objects) ≡ true → Marked xs (h.roots ++ from) ms →
+    list_all (λ o. is_in o ts) (names_in_use from h) ≡ (all_there (NotOf home) ts h.roots && (all_there (NotOf home) ts from && all_there (NotOf home) ts (everywhere (kept_by ms h.objects))))
+far_stand h home xs from ts ms eh ex r rs marked =
+    let w = NotOf home in
+    let fs = everywhere (kept_by ms h.objects) in
+    let one = gathered w h.roots [] in
+    let two = gathered w from one in
+    let all = gathered w fs two in
+    let same : names_in_use from h ≡ all = sole all (FarInUse h from) (far_lists h home xs from ms all eh ex r marked refl) (names_in_use from h) (in_use h from rs) in
+    ap (list_all (λ o. is_in o ts)) same
+    ∙ gathered_all w ts fs two
+    ∙ ap (λ b. all_there w ts fs && b) (gathered_all w ts from one ∙ ap (λ b. all_there w ts from && b) (gathered_all w ts h.roots []))
+    ∙ turned (all_there w ts fs) (all_there w ts from) (all_there w ts h.roots)
+  where
+    turned : (a b c : Bool) → (a && (b && (c && true))) ≡ (c && (b && a))
+    turned true true true = refl
+    turned true true false = refl
+    turned true false true = refl
+    turned true false false = refl
+    turned false true true = refl
+    turned false true false = refl
+    turned false false true = refl
+    turned false false false = refl

@@ -1,13 +1,16 @@
-ghost use Rattle.std.specs.Prelude.{◌≡◌, ◌+◌, ◌≤◌, true, [], ◌++◌, length, is_ok, IfOk, vec_len};
+ghost use Rattle.std.specs.Prelude.{◌≡◌, ◌+◌, ◌≤◌, true, [], ◌++◌, map, length, is_ok, IfOk, vec_len};
+ghost use Rattle.std.specs.List.{list_all};
 ghost use Rattle.objects.specs.Calls.{heap_of};
 ghost use Rattle.tables.specs.Gathered.{Found};
+ghost use Rattle.objects.specs.Executed.{names_in_use};
 ghost use Rattle.objects.specs.Laws.{Sole, Well};
+ghost use Rattle.tables.specs.Model.{is_in, rising};
 ghost use Rattle.tables.specs.Met.{Lists, FarInUse, Refers};
 ghost use Rattle.tables.specs.Shown.{numbers};
 
 use crate::store::Objects;
 use std::alloc::{AllocError, Global};
-use tables::{Which, gather, gather_fields};
+use tables::{Named, Which, all_fields_stand, all_stand, gather, gather_fields};
 use wire::{House, Name};
 
 // The most references that a house has: 256 roots, and eight fields of each of 1,024 objects.
@@ -53,5 +56,22 @@ impl Objects {
         ensures none { Lists [] (Refers (heap_of self.now) house.0) → is_ok result ≡ true }
     {
         self.references(heap, &[], &[true; 1024], Which::Of(house))
+    }
+
+    /// Whether the references to other houses' objects that are met from the roots and the given names all stand in a rising table:
+    /// one search of the table for each root, name and field. No list is made of them, so no memory is asked for.
+    pub fn uses_only<X: Named>(&self, from: &[Name], table: &[X]) -> bool
+        requires { rising (map X.called table.now) ≡ true }
+        ensures { result ≡ list_all (λ o. is_in o (map X.called table.now)) (names_in_use (numbers from.now) (heap_of self.now)) }
+    {
+        let far = Which::NotOf(self.home);
+        let marks = self.met(from);
+        if !all_stand(table, &self.roots, far) {
+            return false;
+        }
+        if !all_stand(table, from, far) {
+            return false;
+        }
+        all_fields_stand(table, &self.objects, &marks, far)
     }
 }

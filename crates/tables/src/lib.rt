@@ -11,7 +11,7 @@ mod place;
 mod which;
 
 pub use closing::close_up;
-pub use gathering::{gather, gather_fields};
+pub use gathering::{all_fields_stand, all_stand, gather, gather_fields};
 pub use marking::mark;
 pub use object::Object;
 pub use place::{Named, enter, find, first, place as place_of};
