@@ -1,6 +1,6 @@
 -- The table of tellings and what it stands for.
-use Rattle.std.proofs.Common.{◌≡◌, ℕ, zero, suc, ◌<◌, true, false, not, eqb, List, [], ◌∷◌, length, get_or, set, take, drop, ◌++◌, count_by, sym, refl, ap, ◌∙◌, subst, ⊎_elim, arith}
-use Rattle.std.specs.List.{insert}
+use Rattle.std.proofs.Common.{◌≡◌, ℕ, zero, suc, ◌<◌, Bool, true, false, cond, not, ◌&&◌, eqb, List, [], ◌∷◌, length, get_or, set, take, drop, ◌++◌, count_by, sym, refl, ap, ◌∙◌, subst, ⊎_elim, arith}
+use Rattle.std.specs.List.{insert, list_all}
 use Rattle.std.proofs.lemmas.Bool.{and_parts, cases_Bool, eq-eqb, ne_eqb}
 use Rattle.std.proofs.lemmas.List.Recursion.{is_count_by}
 use Rattle.std.proofs.lemmas.List.{map-append, map-set, take-map, drop-map}
@@ -57,3 +57,12 @@ module _ (o k : ℕ) (ts : List table.Told) (x : table.Told) where
       ∙ ap (λ y. insert (told_of ts) k y) e
       ∙ ap (λ j. insert (told_of ts) j (awaited o)) (b ∙ ap (below o) (sym (names_told ts)))
       ∙ entered_out o (told_of ts) out
+
+-- nothing in use is untold if all of it stands among the names of what was told
+pub told_all : (us : List ℕ) (ts : List Told) → list_all (λ u. is_in u (names ts)) us ≡ eqb (length (untold us ts)) 0
+told_all [] ts = refl
+told_all (u ∷ us) ts = go (is_in u (names ts)) (told_all us ts)
+  where
+    go : (b : Bool) → list_all (λ v. is_in v (names ts)) us ≡ eqb (length (untold us ts)) 0 → (b && list_all (λ v. is_in v (names ts)) us) ≡ eqb (length (cond b (untold us ts) (u ∷ untold us ts))) 0
+    go true e = e
+    go false e = sym (ne_eqb (suc (length (untold us ts))) 0 (λ z. omega arith))

@@ -85,9 +85,16 @@ abbrev pub unanswered : List Told → List ℕ
 unanswered [] = []
 unanswered (t ∷ ts) = cond t.answered (unanswered ts) (t.name ∷ unanswered ts)
 
--- nothing in use is untold, and nothing told is unanswered
+-- nothing in use is untold
+abbrev pub all_told : List ℕ → Part → Bool
+all_told us p = length (untold us p.told) == 0
+
+-- nothing told is unanswered
+abbrev pub all_answered : Part → Bool
+all_answered p = length (unanswered p.told) == 0
+
 abbrev pub calm : List ℕ → Part → Bool
-calm us p = length (untold us p.told) == 0 && length (unanswered p.told) == 0
+calm us p = all_told us p && all_answered p
 
 -- what the house says to round r: whether it is calm, but to round 2 a stirred house says no
 abbrev pub says_calm : ℕ → List ℕ → Part → Bool

@@ -1,11 +1,13 @@
-ghost use Rattle.std.specs.Prelude.{◌≡◌};
-ghost use Rattle.tables.specs.Shown.{numbers};
-ghost use Rattle.census.specs.Model.{within, hearing, calm, says_calm, polling, replied, replying};
+ghost use Rattle.std.specs.Prelude.{◌≡◌, ℕ, true, not, ◌&&◌, List, ◌==◌};
+ghost use Rattle.tables.specs.Model.{rising};
+ghost use Rattle.census.specs.Model.{names, within, hearing, all_told, all_answered, polling, replied, replying};
 ghost use Rattle.census.specs.Moods.{is_calm};
+ghost use Rattle.census.specs.Shown.{names_in};
 ghost use Rattle.census.specs.Standings.{part_of};
 
 use crate::mood::Mood;
 use crate::standing::{FirstRound, Standing};
+use crate::telling::Told;
 use wire::{Census, House, Message, Name, Refusal, RoundNumber};
 
 impl Standing {
@@ -37,22 +39,30 @@ impl Standing {
         Ok(())
     }
 
-    // Calm if every far reference in use was told in this census, and every telling answered, also of what is in use no longer.
-    pub fn mood(&self, in_use: &[Name]) -> Mood
-        ensures { is_calm result ≡ calm (numbers in_use.now) (part_of self.now) }
+    /// The references that were told in this census, in rising order of their names. The house has told all that it uses if all of it stands there.
+    pub fn told(&self) -> &[Told]
+        ensures names { names_in result.now ≡ names (part_of self.now).told }
+        ensures rises { rising (names_in result.now) ≡ true }
     {
-        Mood::from(self.told.count_untold(in_use) == 0 && self.told.count_unanswered() == 0)
+        self.told.entries()
+    }
+
+    /// Calm if every far reference in use was told in this census (`has_told`), and every telling answered, also of what is in use no longer.
+    pub fn mood(&self, has_told: bool) -> Mood
+        ensures { is_calm result ≡ (has_told && all_answered (part_of self.now)) }
+    {
+        Mood::from(has_told && self.told.count_unanswered() == 0)
     }
 
     // What the house says to a round. Until every house has answered round 1, one that is not in the census yet may hand out a
     // reference by a line with an older number, which nobody has to mark. So to round 2 a house that took one since it answered is restless.
-    fn says(&self, number: RoundNumber, in_use: &[Name]) -> Mood
-        ensures { is_calm result ≡ says_calm number.0 (numbers in_use.now) (part_of self.now) }
+    fn says(&self, number: RoundNumber, has_told: bool) -> Mood
+        ensures { is_calm result ≡ (not (number.0 == 2 && (part_of self.now).stirred) && (has_told && all_answered (part_of self.now))) }
     {
         if number == RoundNumber(2) && self.first == FirstRound::Stirred {
             return Mood::Restless;
         }
-        self.mood(in_use)
+        self.mood(has_told)
     }
 
     // The house has answered a round.
@@ -64,18 +74,19 @@ impl Standing {
         }
     }
 
-    // What house `from`, which this part is of, answers to a round of its own census. A higher one has to be joined first.
+    /// What house `from`, which this part is of, answers to a round of its own census. A higher one has to be joined first.
+    /// `has_told` says whether every far reference in use was told.
     pub fn reply(
         mut self,
         from: House,
         census: Census,
         number: RoundNumber,
-        in_use: &[Name],
+        has_told: bool,
     ) -> (Standing, Result<Message, Refusal>)
-        ensures value { result.1 ≡ replying from census.0 number.0 (numbers in_use.now) (part_of self) }
+        ensures value { (us : List ℕ) → has_told ≡ all_told us (part_of self) → result.1 ≡ replying from census.0 number.0 us (part_of self) }
         ensures after { part_of result.0 ≡ replied census.0 number.0 (part_of self) }
     {
-        let answer = self.respond(from, census, number, in_use);
+        let answer = self.respond(from, census, number, has_told);
         (self, answer)
     }
 
@@ -84,9 +95,9 @@ impl Standing {
         from: House,
         census: Census,
         number: RoundNumber,
-        in_use: &[Name],
+        has_told: bool,
     ) -> Result<Message, Refusal>
-        ensures value { result ≡ replying from census.0 number.0 (numbers in_use.now) (part_of self.old) }
+        ensures value { (us : List ℕ) → has_told ≡ all_told us (part_of self.old) → result ≡ replying from census.0 number.0 us (part_of self.old) }
         ensures after { part_of self.new ≡ replied census.0 number.0 (part_of self.old) }
     {
         self.of_census(census)?;
@@ -94,7 +105,7 @@ impl Standing {
             census,
             number,
             from,
-            calm: self.says(number, in_use).is_calm(),
+            calm: self.says(number, has_told).is_calm(),
             tally: self.tally,
         };
         self.poll(number);

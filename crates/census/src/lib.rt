@@ -14,3 +14,4 @@ pub use mood::Mood;
 pub use rounds::{ASKER, is_asker};
 pub use standing::Standing;
 pub use steps::Marked;
+pub use telling::{Telling, Told};

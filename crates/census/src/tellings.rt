@@ -33,6 +33,14 @@ impl Tellings {
         self.entries.clear();
     }
 
+    // What was told, rising.
+    pub(crate) fn entries(&self) -> &[Told]
+        ensures value { result.now ≡ self.now.entries.items }
+        ensures rises { rising (names_in result.now) ≡ true }
+    {
+        &self.entries
+    }
+
     // Whether `o` is told.
     fn has(&self, o: Name) -> bool
         ensures { result ≡ is_in o.0 (names (told_of self.now.entries.items)) }
@@ -50,7 +58,7 @@ impl Tellings {
     }
 
     // How many of these names are not told.
-    pub(crate) fn count_untold(&self, in_use: &[Name]) -> usize
+    fn count_untold(&self, in_use: &[Name]) -> usize
         ensures { result ≡ length (untold (numbers in_use.now) (told_of self.now.entries.items)) }
     {
         in_use.iter().filter(|o| !self.has(**o)).count()

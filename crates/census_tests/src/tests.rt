@@ -1,5 +1,6 @@
-use census::{Marked, Standing, is_asker};
+use census::{Marked, Mood, Standing, is_asker};
 use std::test::Fail;
+use tables::{Which, all_stand};
 use wire::{Census, House, Message, Name, Refusal, RoundNumber};
 
 // The number of a refusal, 0 where there is none.
@@ -10,9 +11,19 @@ fn refused(answer: Result<(), Refusal>) -> u8 {
     }
 }
 
+// Whether house 3 has told all these.
+fn has_told(part: &Standing, in_use: &[Name]) -> bool {
+    all_stand(part.told(), in_use, Which::NotOf(House(3)))
+}
+
+fn mood(part: &Standing, in_use: &[Name]) -> Mood {
+    part.mood(has_told(part, in_use))
+}
+
 // What house 3 says to a round of census 1: whether it is calm, and its tally.
 fn asked(part: Standing, round: u32, in_use: &[Name]) -> (Standing, Option<(bool, u32)>) {
-    let (part, answer) = part.reply(House(3), Census(1), RoundNumber(round), in_use);
+    let told = has_told(&part, in_use);
+    let (part, answer) = part.reply(House(3), Census(1), RoundNumber(round), told);
     match answer {
         Ok(
             Message::Reply {
@@ -51,10 +62,10 @@ fn tells_until_answered(rt: HostRuntime) -> Result<(), Fail> {
     let due = due?;
     assert!(rt; due.len() == 1);
     assert_eq!(rt; due[0].0, 49);
-    assert!(rt; !part.mood(&[]).is_calm());
+    assert!(rt; !mood(&part, &[]).is_calm());
     let (part, answer) = part.answered(Census(0), Name(49));
     assert_eq!(rt; refused(answer), 0);
-    assert!(rt; part.mood(&[Name(33)]).is_calm() && !part.mood(&[Name(65)]).is_calm());
+    assert!(rt; mood(&part, &[Name(33)]).is_calm() && !mood(&part, &[Name(65)]).is_calm());
     Ok(())
 }
 
@@ -64,14 +75,14 @@ fn refuses_other_censuses(rt: HostRuntime) -> Result<(), Fail> {
     assert_eq!(rt; due?.len(), 1);
     let (part, answer) = part.answered(Census(1), Name(33));
     assert_eq!(rt; refused(answer), 8);
-    assert!(rt; !part.mood(&[]).is_calm());
-    let (part, reply) = part.reply(House(3), Census(1), RoundNumber(1), &[]);
+    assert!(rt; !mood(&part, &[]).is_calm());
+    let (part, reply) = part.reply(House(3), Census(1), RoundNumber(1), true);
     match reply {
         Ok(_) => assert!(rt; false),
         Err(refusal) => assert_eq!(rt; refusal.number(), 8),
     }
     let (part, _joined) = part.join(Census(1));
-    assert!(rt; part.mood(&[]).is_calm());
+    assert!(rt; mood(&part, &[]).is_calm());
     Ok(())
 }
 

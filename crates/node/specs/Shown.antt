@@ -1,25 +1,25 @@
 -- What a house in memory stands for, and what its answers say.
-use Rattle.std.specs.Prelude.{◌≡◌, Bool, true, false, List, [], ◌∷◌, map, is_ok, Ok, Err, vec_items, Result}
+use Rattle.std.specs.Prelude.{◌≡◌, ℕ, Bool, true, false, ◌||◌, List, [], ◌∷◌, map, is_ok, Ok, Err, vec_items, Result}
 use Rattle.wire.specs.declared.refusal.Refusal.{Refusal}
-use Rattle.wire.specs.declared.message.Message.{Message}
 use Rattle.wire.specs.declared.message.Message.TheVariants as message
-use Rattle.wire.specs.Format.{decode}
 use Rattle.objects.specs.declared.fault.Fault.{Fault}
 use Rattle.objects.specs.declared.fault.Fault.TheVariants.{Refused, NoMemory}
 use Rattle.wire.specs.Names.{name}
 use Rattle.tables.specs.Shown.{numbers}
 use Rattle.objects.specs.declared.store.Objects.{Objects}
 use Rattle.objects.specs.Calls.{heap_of}
+use Rattle.objects.specs.Executed.{references_of}
 use Rattle.lines.specs.declared.table.Lines.{Lines}
 use Rattle.lines.specs.Lists.{lines, Lent}
+use Rattle.census.specs.Model.{due_of}
 use Rattle.census.specs.Standings.{part_of}
 use Rattle.rounds.specs.Shown.{desk_of}
 use Rattle.node.specs.declared.head.Head.{Head}
 use Rattle.node.specs.declared.sent.Sent.{Sent}
 use Rattle.node.specs.declared.sent.Sent.TheVariants.{Nothing, One, Word, Tellings}
 use Rattle.node.specs.declared.lent.Tables.{Tables}
-use Rattle.rules.specs.House.{House, houses}
-use Rattle.rules.specs.Step.{Letter, Outcome, letter, Event, make, link, unlink, load, drop, ask, collect, word, join, tell, round, came, step}
+use Rattle.rules.specs.House.{House}
+use Rattle.rules.specs.Step.{Letter, Outcome, letter, Event, word, tell, used, step}
 
 abbrev pub house_of : Head → Objects → Lines → House
 house_of h os ls = record { heap = heap_of os; list = lines ls; stamps = h.stamps; part = part_of h.standing; desk = desk_of h.desk }
@@ -44,47 +44,25 @@ letters (Tellings c from objects) = map (λ o. letter (message.Telling c (name o
 abbrev pub Answer : Type 0
 Answer = Result Sent Fault
 
--- the answer and the house afterwards are those of the outcome; only a step that asks for memory may find none, and leaves the house as it was
+-- the answer and the house afterwards are those of the outcome; only a step that asks for memory, and is not refused, may find none, and leaves the house as it was
 abbrev pub Gives : Bool → Answer → Outcome → House → House → Type 0
 Gives allocates (Ok s) x before after = x ≡ record { answer = Ok (letters s); house = after }
 Gives allocates (Err (Refused e)) x before after = x ≡ record { answer = Err e; house = after }
 Gives allocates (Err NoMemory) x before after = (allocates ≡ true) × (is_ok x.answer ≡ true) × (after ≡ before)
 
--- to a round a house answers by all that it uses
-abbrev pub is_round : Message → Bool
-is_round (message.Ask o by to) = false
-is_round (message.Give o to s) = false
-is_round (message.Word from to s p) = false
-is_round (message.Telling c o from) = false
-is_round (message.Answer c o from) = false
-is_round (message.Round c r) = true
-is_round (message.Reply c r from calm t) = false
-is_round (message.Complete c) = false
+-- there is something to be listed
+abbrev pub is_listed : List ℕ → Bool
+is_listed [] = false
+is_listed (o ∷ os) = true
 
-abbrev pub asks_round : Result Message Refusal → Bool
-asks_round (Ok m) = is_round m
-asks_round (Err e) = false
-
--- the steps that ask for memory: those that list references
+-- the steps that ask for memory: a word, where there is a reference to list, and a telling, where something is in use of others or waits for its answer
 abbrev pub allocates : Event → House → Bool
-allocates (make k) h = false
-allocates (link o p) h = false
-allocates (unlink o p) h = false
-allocates (load o p) h = false
-allocates (drop o) h = false
-allocates (ask o j) h = false
-allocates collect h = false
-allocates (word j) h = true
-allocates (join c) h = false
-allocates tell h = true
-allocates round h = false
-allocates (came bs) h = asks_round (decode (houses h) bs)
+allocates (word j) h = is_listed (references_of j h.heap)
+allocates tell h = is_listed (used h) || is_listed (due_of (used h) h.part)
+allocates e h = false
 
 abbrev pub never : House → Bool
 never h = false
-
-abbrev pub always : House → Bool
-always h = true
 
 -- the answer and the house afterwards are those of the step at an event
 abbrev pub Answers : Answer → Event → House → House → Type 0

@@ -1,12 +1,14 @@
-ghost use Rattle.std.specs.Prelude.{◌≡◌, true, [], IfOk};
+ghost use Rattle.std.specs.Prelude.{◌≡◌, true, [], IfOk, OnErr};
 ghost use Rattle.tables.specs.Shown.{numbers};
 ghost use Rattle.objects.specs.Calls.{heap_of};
-ghost use Rattle.objects.specs.Executed.{names_in_use};
-ghost use Rattle.rules.specs.Step.{used, caught_up, polled, worded, bytes_of, collect, word, join, tell};
+ghost use Rattle.objects.specs.Executed.{names_in_use, references_of};
+ghost use Rattle.census.specs.Model.{all_told};
+ghost use Rattle.census.specs.Standings.{part_of};
+ghost use Rattle.rules.specs.Step.{used, polled, worded, bytes_of, collect, word, join, tell};
 ghost use Rattle.lines.specs.declared.table.Lines.{Lines};
 ghost use Rattle.lines.specs.Lists.{Lent};
 ghost use Rattle.node.specs.Tied.{Tied};
-ghost use Rattle.node.specs.Shown.{always, by, house_of, Does, Gives, Steps};
+ghost use Rattle.node.specs.Shown.{allocates, by, house_lent, house_of, is_listed, never, Does, Gives, Steps};
 
 use crate::head::Head;
 use crate::lent::Tables;
@@ -40,30 +42,14 @@ impl Head {
         (head, Ok(Sent::Nothing))
     }
 
-    // The far references that are in use once a census is joined, if it is above the own; nothing is joined yet.
-    fn in_use(
-        &self,
-        objects: &Objects,
-        list: &Lines,
-        census: Census,
-    ) -> Result<Vec<Name>, AllocError>
-        ensures { IfOk result (λ v. numbers v.items ≡ used (caught_up census.0 (house_of self.now objects.now list.now))) }
-    {
-        let own = self.standing.census();
-        let mut names = [Name(0); 2048];
-        if census <= own {
-            return met_from(self.heap, objects, list.objects_in(own, &mut names));
-        }
-        let listed = list.objects_joining(census, &self.stamps, &mut names);
-        met_from(self.heap, objects, listed)
-    }
-
     // All that is in use of other houses is told to them, until they answer.
     pub fn tell(mut self, tables: &Tables) -> (Head, Answer)
-        ensures { Does always (by tell) self tables.now result tables.now }
+        ensures { Does (allocates tell) (by tell) self tables.now result tables.now }
     {
         let census = self.standing.census();
-        let Ok(in_use) = self.in_use(tables.objects, tables.list, census) else {
+        let mut names = [Name(0); 2048];
+        let listed = tables.list.objects_in(census, &mut names);
+        let Ok(in_use) = met_from(self.heap, tables.objects, listed) else {
             return (self, Err(Fault::NoMemory));
         };
         let (standing, due) = self.standing.tell(&in_use);
@@ -74,25 +60,34 @@ impl Head {
         (self, answer)
     }
 
-    // A round of a census: the house says whether it is calm.
+    // Whether every far reference in use was told in the house's census. They are not listed for that, so that a round wants no memory.
+    fn has_told(&self, tables: &Tables) -> bool
+        ensures { result ≡ all_told (used (house_lent self.now tables.now)) (part_of self.now.standing) }
+    {
+        let mut names = [Name(0); 2048];
+        let listed = tables
+            .list
+            .objects_in(self.standing.census(), &mut names);
+        tables.objects.uses_only(listed, self.standing.told())
+    }
+
+    // A round of a census, which is joined first if it is above the own: the house says whether it is calm.
     pub(crate) fn poll(
         self,
         tables: &mut Tables,
         census: Census,
         number: RoundNumber,
     ) -> (Head, Answer)
-        ensures { Does always (polled census.0 number.0) self tables.old result tables.new }
+        ensures { Does never (polled census.0 number.0) self tables.old result tables.new }
     {
         if census < self.standing.census() {
             return (self, Err(Refusal::OtherCensus.into()));
         }
-        let Ok(in_use) = self.in_use(tables.objects, tables.list, census) else {
-            return (self, Err(Fault::NoMemory));
-        };
         let mut head = self.catch_up(tables.list, census);
+        let has_told = head.has_told(tables);
         let (standing, answer) = head
             .standing
-            .reply(tables.list.home, census, number, &in_use);
+            .reply(tables.list.home, census, number, has_told);
         head.standing = standing;
         (head, answer.map(Sent::One).map_err(Fault::from))
     }
@@ -106,7 +101,7 @@ impl Head {
     }
 
     fn word_for(&self, objects: &Objects, to: House) -> Answer
-        ensures { (ls : Lines) → Gives true result (worded to.0 (house_of self.now objects.now ls)) (house_of self.now objects.now ls) (house_of self.now objects.now ls) }
+        ensures { (ls : Lines) → Gives (is_listed (references_of to.0 (heap_of objects.now))) result (worded to.0 (house_of self.now objects.now ls)) (house_of self.now objects.now ls) (house_of self.now objects.now ls) }
     {
         let from = objects.home();
         // by number: how many houses there are is no house
@@ -131,7 +126,8 @@ impl Head {
 
 // The far references that are met from the roots and these names.
 fn met_from(heap: Global, objects: &Objects, names: &[Name]) -> Result<Vec<Name>, AllocError>
-    ensures { IfOk result (λ v. numbers v.items ≡ names_in_use (numbers names.now) (heap_of objects.now)) }
+    ensures names { IfOk result (λ v. numbers v.items ≡ names_in_use (numbers names.now) (heap_of objects.now)) }
+    ensures asks { OnErr result (is_listed (names_in_use (numbers names.now) (heap_of objects.now)) ≡ true) }
 {
     objects.in_use(heap, names)
 }

@@ -1,7 +1,7 @@
 ghost use Rattle.std.specs.Prelude.{◌≡◌};
 ghost use Rattle.wire.specs.Laws.{Rises};
 ghost use Rattle.rules.specs.Step.{receives, came};
-ghost use Rattle.node.specs.Shown.{allocates, by, is_round, Does};
+ghost use Rattle.node.specs.Shown.{by, never, Does};
 
 use crate::head::Head;
 use crate::lent::Tables;
@@ -13,7 +13,7 @@ impl Head {
     // A message that was read, with its objects' part.
     fn receive(self, tables: &mut Tables, message: Message, part: &[u8]) -> (Head, Answer)
         requires { Rises message part.now }
-        ensures { Does (λ h. is_round message) (receives message part.now) self tables.old result tables.new }
+        ensures { Does never (receives message part.now) self tables.old result tables.new }
     {
         match message {
             Message::Ask { object, by, to } => self.hand(tables, object, by, to),
@@ -48,7 +48,7 @@ impl Head {
 
     // These bytes came, whatever they are.
     pub fn got(self, tables: &mut Tables, bytes: &[u8]) -> (Head, Answer)
-        ensures { Does (allocates (came bytes.now)) (by (came bytes.now)) self tables.old result tables.new }
+        ensures { Does never (by (came bytes.now)) self tables.old result tables.new }
     {
         match wire::read(bytes, tables.list.houses) {
             Ok(read) => self.receive(tables, read.message, read.objects),
