@@ -17,7 +17,7 @@ use Rattle.play.specs.Play.{World, Entry, calls, delivers, put, happens, play, p
 use Rattle.play.specs.Bound.{line_count}
 use Rattle.play.proofs.Frame.{put_cases}
 use Rattle.play.proofs.Tracking.{Kept, kept_play}
-use Rattle.play.proofs.FairEntries.{Cleanly}
+use Rattle.play.specs.Exact.{AllCleaning}
 
 same : {a b : ℕ} → a ≡ b → a ≤ b
 same e = omega arith
@@ -116,11 +116,11 @@ play_list n (delivers i m) w k e j =
     here : ltb i n ≡ true → NoLonger (w.house i) (step (w.house i) (came bs))
     here t = subst (λ (z : ℕ). NoLonger (w.house i) (read_as (decode z bs) bs (w.house i))) (sym (k.houses i (ltb-true i n t))) (read_list (decode n bs) bs (w.house i) e)
 
-plays_list : (n : ℕ) (es : List Entry) (w : World) → Kept n w → Cleanly n es w → (j : ℕ) → length ((plays n es w).house j).list ≤ length (w.house j).list
+plays_list : (n : ℕ) (es : List Entry) (w : World) → Kept n w → AllCleaning n es w → (j : ℕ) → length ((plays n es w).house j).list ≤ length (w.house j).list
 plays_list n [] w k c j = omega arith
 plays_list n (e ∷ es) w k c j = more (plays_list n es (play n e w) (kept_play n e w k) c.1 j) (play_list n e w k c.0 j)
 
 -- so in all there are never more lines
-pub fewer_lines : (n : ℕ) (es : List Entry) (w : World) → Kept n w → Cleanly n es w → (k : ℕ) → line_count k (plays n es w) ≤ line_count k w
+pub fewer_lines : (n : ℕ) (es : List Entry) (w : World) → Kept n w → AllCleaning n es w → (k : ℕ) → line_count k (plays n es w) ≤ line_count k w
 fewer_lines n es w x c zero = omega arith
 fewer_lines n es w x c (suc k) = add (fewer_lines n es w x c k) (plays_list n es w x c k)

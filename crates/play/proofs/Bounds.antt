@@ -11,13 +11,13 @@ use Rattle.rules.specs.House as rules
 use Rattle.promise.proofs.Spoken.{spoken_of}
 use Rattle.play.specs.Play.{World, Entry, plays}
 use Rattle.play.specs.Seen.{seen}
-use Rattle.play.specs.Exact.{Joined}
+use Rattle.play.specs.Exact.{Joined, AllCleaning}
 use Rattle.play.specs.Bound.{line_count, most, Bounded, FewLines, calls_in, is_tell, FewPasses}
 use Rattle.play.specs.Settle.{and_then, calling, each, word_to, words, above, joins, tallies, passes, rounding, collects, completing, settling}
 use Rattle.play.proofs.Programs.{truth}
 use Rattle.play.proofs.Promise.{has_back, safe}
 use Rattle.play.proofs.Tracking.{Kept, kept}
-use Rattle.play.proofs.FairEntries.{plays_append, kept_plays, Cleanly, way_plays, each_brings}
+use Rattle.play.proofs.FairEntries.{plays_append, kept_plays, way_plays, each_brings}
 use Rattle.play.proofs.FairPump.{cleanly_words, cleanly_joins, cleanly_completing}
 use Rattle.play.proofs.FairSteps.{Fairly}
 use Rattle.play.proofs.FairWays.{fair_way, fair_first}
@@ -119,7 +119,7 @@ module _ (n : ℕ) where
       less a d s c q r t = omega arith
 
 -- the first of some entries
-front : (n : ℕ) (es fs : List Entry) (w : World) → Cleanly n (es ++ fs) w → Cleanly n es w
+front : (n : ℕ) (es fs : List Entry) (w : World) → AllCleaning n (es ++ fs) w → AllCleaning n es w
 front n [] fs w c = tt
 front n (e ∷ es) fs w c = (c.0, front n es fs _ c.1)
 
@@ -165,7 +165,7 @@ module _ (n : ℕ) (w : World) (some : 0 < n) (k : Kept n w) (low : (i : ℕ) �
   kept_passed : Kept n passed
   kept_passed = kept_plays n (passes (2048 * n + 1) n joined) joined kept_joined
 
-  clean_passes : Cleanly n (passes (2048 * n + 1) n joined) joined
+  clean_passes : AllCleaning n (passes (2048 * n + 1) n joined) joined
   clean_passes = front n (passes (2048 * n + 1) n joined) _ joined (cleanly_completing n joined kept_joined)
 
   fair_passed : Fairly n c (seen n passed).net

@@ -1,9 +1,10 @@
 -- Lists of entries that are the collector's: the steps of the relation that they are, and that the same references matter after them.
 use Rattle.std.proofs.Common.{◌≡◌, ℕ, zero, suc, ◌<◌, ◌≤◌, Bool, true, List, [], ◌∷◌, ◌++◌, sym, refl, subst, arith}
-use Rattle.play.specs.Play.{World, Entry, play, plays, cleaning}
+use Rattle.play.specs.Play.{World, Entry, play, plays}
 use Rattle.play.specs.Seen.{seen}
 use Rattle.play.specs.Promise.{SameMatters}
 use Rattle.play.specs.Settle.{each}
+use Rattle.play.specs.Exact.{AllCleaning}
 use Rattle.play.proofs.Frame.{Way}
 use Rattle.play.proofs.Catching.{way_on}
 use Rattle.play.proofs.Tracking.{Kept, kept_play, way_play}
@@ -17,27 +18,22 @@ pub kept_plays : (n : ℕ) (es : List Entry) (w : World) → Kept n w → Kept n
 kept_plays n [] w k = k
 kept_plays n (e ∷ es) w k = kept_plays n es (play n e w) (kept_play n e w k)
 
--- each is the collector's, in the world where it is played
-abbrev pub Cleanly : ℕ → List Entry → World → Type 0
-Cleanly n [] w = Unit {0}
-Cleanly n (e ∷ es) w = (cleaning n e w ≡ true) × Cleanly n es (play n e w)
-
-pub cleanly_append : (n : ℕ) (es fs : List Entry) (w : World) → Cleanly n es w → Cleanly n fs (plays n es w) → Cleanly n (es ++ fs) w
+pub cleanly_append : (n : ℕ) (es fs : List Entry) (w : World) → AllCleaning n es w → AllCleaning n fs (plays n es w) → AllCleaning n (es ++ fs) w
 cleanly_append n [] fs w c d = d
 cleanly_append n (e ∷ es) fs w c d = (c.0, cleanly_append n es fs (play n e w) c.1 d)
 
-pub way_plays : (n : ℕ) (es : List Entry) (w : World) → Kept n w → Cleanly n es w → Way true n (seen n w) (seen n (plays n es w))
+pub way_plays : (n : ℕ) (es : List Entry) (w : World) → Kept n w → AllCleaning n es w → Way true n (seen n w) (seen n (plays n es w))
 way_plays n [] w k c = Way.same
 way_plays n (e ∷ es) w k c =
     way_on (subst (λ (b : Bool). Way b n (seen n w) (seen n (play n e w))) c.0 (way_play n e w k)) (way_plays n es (play n e w) (kept_play n e w k) c.1)
 
-pub same_plays : (n : ℕ) (es : List Entry) (w : World) → Kept n w → Cleanly n es w → SameMatters n w (plays n es w)
+pub same_plays : (n : ℕ) (es : List Entry) (w : World) → Kept n w → AllCleaning n es w → SameMatters n w (plays n es w)
 same_plays n es w k c j o =
     let z = way_nothing k.few k.runs (way_plays n es w k c) j o in
     (λ h. has_back n (plays n es w) (z.0 (has_seen n w h)), λ h. has_back n w (z.1 (has_seen n (plays n es w) h)))
 
 -- the same at each house: the collector's, if it is at each
-pub cleanly_each : (n : ℕ) (f : ℕ → World → List Entry) → ((i : ℕ) (v : World) → Kept n v → Cleanly n (f i v) v) → (k : ℕ) (w : World) → Kept n w → Cleanly n (each n f k w) w
+pub cleanly_each : (n : ℕ) (f : ℕ → World → List Entry) → ((i : ℕ) (v : World) → Kept n v → AllCleaning n (f i v) v) → (k : ℕ) (w : World) → Kept n w → AllCleaning n (each n f k w) w
 cleanly_each n f g zero w x = tt
 cleanly_each n f g (suc k) w x =
     cleanly_append n (each n f k w) (f k (plays n (each n f k w) w)) w (cleanly_each n f g k w x) (g k (plays n (each n f k w) w) (kept_plays n (each n f k w) w x))

@@ -17,8 +17,9 @@ use Rattle.rules.specs.Sound.{Typed}
 use Rattle.rules.proofs.Sound.{sent_read}
 use Rattle.play.specs.Play.{World, Entry, calls, delivers, play, plays, happens, bytes_of, written, of_collector, for_collector, cleaning}
 use Rattle.play.specs.Settle.{goes_to, delivery, deliveries, and_then, pump, enough, calling, each, word_to, words, joins, pass, passes, tallies, rounding, collects, completing, above, settling}
-use Rattle.play.proofs.Tracking.{Kept, kept_play}
-use Rattle.play.proofs.FairEntries.{Cleanly, cleanly_append, cleanly_each, kept_plays}
+use Rattle.play.specs.Exact.{AllCleaning, OnlyCleans}
+use Rattle.play.proofs.Tracking.{Kept, kept, kept_play}
+use Rattle.play.proofs.FairEntries.{cleanly_append, cleanly_each, kept_plays}
 use Rattle.play.proofs.FairAnswers.{letters_of, Quiet, quiet_read, quiet_call}
 
 -- every message from number m on is the collector's
@@ -81,14 +82,14 @@ since_play n m (delivers i j) w k e s = go (ltb i n && ltb j (length w.sent)) re
     go false l = s
 
 -- message m comes to some houses
-delivering : (n m : ℕ) (to : List ℕ) (w : World) → Kept n w → Since n m w → Cleanly n (map (delivery m) to) w × Since n m (plays n (map (delivery m) to) w)
+delivering : (n m : ℕ) (to : List ℕ) (w : World) → Kept n w → Since n m w → AllCleaning n (map (delivery m) to) w × Since n m (plays n (map (delivery m) to) w)
 delivering n m [] w k s = (tt, s)
 delivering n m (i ∷ to) w k s =
     let e = s m (omega arith) in
     let r = delivering n m to (play n (delivers i m) w) (kept_play n (delivers i m) w k) (since_play n m (delivers i m) w k e s) in
     ((e, r.0), r.1)
 
-pub cleanly_pump : (k n m : ℕ) (w : World) → Kept n w → Since n m w → Cleanly n (pump k n m w) w
+pub cleanly_pump : (k n m : ℕ) (w : World) → Kept n w → Since n m w → AllCleaning n (pump k n m w) w
 cleanly_pump zero n m w x s = tt
 cleanly_pump (suc k) n m w x s = go (ltb m (length w.sent)) (cleanly_pump k n (m + 1) v (kept_plays n (deliveries n m w) w x) (λ q l. d.1 q (more l)))
   where
@@ -101,39 +102,39 @@ cleanly_pump (suc k) n m w x s = go (ltb m (length w.sent)) (cleanly_pump k n (m
     more : {a b : ℕ} → a + 1 ≤ b → a ≤ b
     more p = omega arith
 
-    d : Cleanly n (deliveries n m w) w × Since n m v
+    d : AllCleaning n (deliveries n m w) w × Since n m v
     d = delivering n m to w x s
 
-    go : (b : Bool) → Cleanly n (pump k n (m + 1) v) v → Cleanly n (cond b (and_then n w (deliveries n m w) (λ v. pump k n (m + 1) v)) []) w
+    go : (b : Bool) → AllCleaning n (pump k n (m + 1) v) v → AllCleaning n (cond b (and_then n w (deliveries n m w) (λ v. pump k n (m + 1) v)) []) w
     go true r = cleanly_append n (deliveries n m w) (pump k n (m + 1) v) w d.0 r
     go false r = tt
 
 since_end : (n : ℕ) (w : World) → Since n (length w.sent) w
 since_end n w k l = ap (λ (bs : List ℕ). for_collector (decode n bs)) (get_or_past w.sent k [] l)
 
-pub cleanly_calling : (n i : ℕ) (c : Call) (w : World) → of_collector c ≡ true → Kept n w → Cleanly n (calling n i c w) w
+pub cleanly_calling : (n i : ℕ) (c : Call) (w : World) → of_collector c ≡ true → Kept n w → AllCleaning n (calling n i c w) w
 cleanly_calling n i c w e k =
     let v = play n (calls i c) w in
     (e, cleanly_pump (enough n (length w.sent) v) n (length w.sent) v (kept_play n (calls i c) w k) (since_play n (length w.sent) (calls i c) w k e (since_end n w)))
 
 -- and so are all its parts
-pub cleanly_word : (n i j : ℕ) (w : World) → Kept n w → Cleanly n (word_to n i j w) w
+pub cleanly_word : (n i j : ℕ) (w : World) → Kept n w → AllCleaning n (word_to n i j w) w
 cleanly_word n i j w k = go (eqb i j)
   where
-    go : (b : Bool) → Cleanly n (cond b [] (calling n i (call.Word (house j)) w)) w
+    go : (b : Bool) → AllCleaning n (cond b [] (calling n i (call.Word (house j)) w)) w
     go true = tt
     go false = cleanly_calling n i (call.Word (house j)) w refl k
 
-pub cleanly_words : (n : ℕ) (w : World) → Kept n w → Cleanly n (words n w) w
+pub cleanly_words : (n : ℕ) (w : World) → Kept n w → AllCleaning n (words n w) w
 cleanly_words n w k = cleanly_each n (λ i v. each n (λ j u. word_to n i j u) n v) (λ i v x. cleanly_each n (λ j u. word_to n i j u) (λ j u y. cleanly_word n i j u y) n v x) n w k
 
-pub cleanly_joins : (n c : ℕ) (w : World) → Kept n w → Cleanly n (joins n c w) w
+pub cleanly_joins : (n c : ℕ) (w : World) → Kept n w → AllCleaning n (joins n c w) w
 cleanly_joins n c w k = cleanly_each n (λ i v. calling n i (call.Join c) v) (λ i v x. cleanly_calling n i (call.Join c) v refl x) n w k
 
-cleanly_pass : (n : ℕ) (w : World) → Kept n w → Cleanly n (pass n w) w
+cleanly_pass : (n : ℕ) (w : World) → Kept n w → AllCleaning n (pass n w) w
 cleanly_pass n w k = cleanly_each n (λ i v. calling n i call.Tell v) (λ i v x. cleanly_calling n i call.Tell v refl x) n w k
 
-cleanly_passes : (t n : ℕ) (w : World) → Kept n w → Cleanly n (passes t n w) w
+cleanly_passes : (t n : ℕ) (w : World) → Kept n w → AllCleaning n (passes t n w) w
 cleanly_passes zero n w k = tt
 cleanly_passes (suc t) n w k =
     cleanly_append n (pass n w) (cond (eqb (tallies n v) (tallies n w)) [] (passes t n v)) w (cleanly_pass n w k) (go (eqb (tallies n v) (tallies n w)) (cleanly_passes t n v (kept_plays n (pass n w) w k)))
@@ -141,28 +142,31 @@ cleanly_passes (suc t) n w k =
     v : World
     v = plays n (pass n w) w
 
-    go : (b : Bool) → Cleanly n (passes t n v) v → Cleanly n (cond b [] (passes t n v)) v
+    go : (b : Bool) → AllCleaning n (passes t n v) v → AllCleaning n (cond b [] (passes t n v)) v
     go true r = tt
     go false r = r
 
-cleanly_rounding : (n : ℕ) (w : World) → Kept n w → Cleanly n (rounding n w) w
+cleanly_rounding : (n : ℕ) (w : World) → Kept n w → AllCleaning n (rounding n w) w
 cleanly_rounding n w k = cleanly_calling n asker call.Round w refl k
 
 -- some entries, and what is then to be done
-pub cleanly_then : (n : ℕ) (w : World) (es : List Entry) (f : World → List Entry) → Kept n w → Cleanly n es w → ((v : World) → Kept n v → Cleanly n (f v) v) → Cleanly n (and_then n w es f) w
+pub cleanly_then : (n : ℕ) (w : World) (es : List Entry) (f : World → List Entry) → Kept n w → AllCleaning n es w → ((v : World) → Kept n v → AllCleaning n (f v) v) → AllCleaning n (and_then n w es f) w
 cleanly_then n w es f k c g = cleanly_append n es (f (plays n es w)) w c (g (plays n es w) (kept_plays n es w k))
 
-pub cleanly_completing : (n : ℕ) (w : World) → Kept n w → Cleanly n (completing n w) w
+pub cleanly_completing : (n : ℕ) (w : World) → Kept n w → AllCleaning n (completing n w) w
 cleanly_completing n w k =
     cleanly_then n w (passes (2048 * n + 1) n w) (λ v. and_then n v (rounding n v) (λ u. rounding n u)) k (cleanly_passes (2048 * n + 1) n w k)
     (λ v x. cleanly_then n v (rounding n v) (λ u. rounding n u) x (cleanly_rounding n v x) (λ u y. cleanly_rounding n u y))
 
-pub cleanly_collects : (n : ℕ) (w : World) → Kept n w → Cleanly n (collects n w) w
+pub cleanly_collects : (n : ℕ) (w : World) → Kept n w → AllCleaning n (collects n w) w
 cleanly_collects n w k = cleanly_each n (λ i v. calling n i call.Collect v) (λ i v x. cleanly_calling n i call.Collect v refl x) n w k
 
 -- all that settling does is the collector's
-pub cleanly_settling : (n : ℕ) (w : World) → Kept n w → Cleanly n (settling n w) w
+pub cleanly_settling : (n : ℕ) (w : World) → Kept n w → AllCleaning n (settling n w) w
 cleanly_settling n w k =
     cleanly_then n w (words n w) (λ v. and_then n v (joins n (above n v) v) (λ u. and_then n u (completing n u) (λ t. collects n t))) k (cleanly_words n w k) (λ v x.
     cleanly_then n v (joins n (above n v) v) (λ u. and_then n u (completing n u) (λ t. collects n t)) x (cleanly_joins n (above n v) v x) (λ u y.
     cleanly_then n u (completing n u) (λ t. collects n t) y (cleanly_completing n u y) (λ t z. cleanly_collects n t z)))
+
+pub only_cleans : OnlyCleans
+only_cleans n few w r = cleanly_settling n w (kept n few r)

@@ -6,7 +6,7 @@ use Rattle.census.specs.Model as census
 use Rattle.rules.specs.House as rules
 use Rattle.play.specs.Play.{World, Entry, plays}
 use Rattle.play.specs.Seen.{seen}
-use Rattle.play.specs.Exact.{Joined, Swept, Exactly, Settles, AlwaysSettles, NothingLeft}
+use Rattle.play.specs.Exact.{Joined, Swept, Exactly, LinesMatter, Settles, AlwaysSettles, NothingLeft}
 use Rattle.play.specs.Settle.{words, joins, above, completing, collects, and_then, settling}
 use Rattle.play.proofs.Tracking.{Kept, kept}
 use Rattle.play.proofs.Promise.{safe}
@@ -67,8 +67,10 @@ module _ (n : ℕ) (w : World) (some : 0 < n) (k : Kept n w) (low : (i : ℕ) �
 
   pub settles_from : Swept n c ended → Settles n w (plays n (settling n w) w)
   settles_from swept =
+      let left = collects_all n c ended (kept_plays n (completing n joined) joined kept_joined) swept fair_ended in
       record {
-        exact = subst (λ (v : World). Exactly n v) (sym whole) (collects_all n c ended (kept_plays n (completing n joined) joined kept_joined) swept fair_ended);
+        exact = subst (λ (v : World). Exactly n v) (sym whole) left.0;
+        lines = subst (λ (v : World). LinesMatter n v) (sym whole) left.1;
         same = same_plays n (settling n w) w k (cleanly_settling n w k);
         there = (safe n (plays n (settling n w) w) some (kept_plays n (settling n w) w k)).there;
       }

@@ -17,7 +17,7 @@ use Rattle.promise.proofs.Joining.{met_some}
 use Rattle.play.specs.Play.{World, put, plays}
 use Rattle.play.specs.Seen.{seen}
 use Rattle.play.specs.Promise.{Has}
-use Rattle.play.specs.Exact.{Swept, Exactly}
+use Rattle.play.specs.Exact.{Swept, Exactly, LinesMatter}
 use Rattle.play.specs.Settle.{calling, collects}
 use Rattle.play.proofs.Frame.{put_cases}
 use Rattle.play.proofs.Promise.{has_seen, has_back}
@@ -29,7 +29,7 @@ use Rattle.play.proofs.SettledJoins.{calling_quiet}
 
 -- every line is of what matters, and so are the objects of the houses below a
 record Tidy (n a : ℕ) (w : World) : Type 0 where
-  lines : (k : ℕ) → k < n → (e : Listed) → Memᴰ e (w.house k).list → Has n w e.holder e.object
+  lines : LinesMatter n w
   objects : (i : ℕ) → i < a → (o : ℕ) → present o (w.house i).heap.objects ≡ true → (j : ℕ) × Has n w j o
 
 module _ (n a : ℕ) (w : World) (l : a < n) (x : Kept n w) (f : Tidy n a w) where
@@ -68,7 +68,8 @@ module _ (n a : ℕ) (w : World) (l : a < n) (x : Kept n w) (f : Tidy n a w) whe
             (λ _ o e. left o e) (λ i z q o e. let y = f.objects i (last q z) o e in (y.0, carry y.1));
       })
 
-pub collects_all : (n c : ℕ) (w : World) → Kept n w → Swept n c w → Fairly n c (seen n w).net → Exactly n (plays n (collects n w) w)
-collects_all n c w k s f i o l e =
-    (each_brings n (Tidy n) (λ i v. calling n i call.Collect v) (λ a v l x t. tidy_more n a v l x t) n w k
-    (record { lines = λ j l e m. has_back n w (f.lines j e m (le_of_eq (sym ((s j l).1 e m)))); objects = λ j l. absurd (none_below l) }) (omega arith)).objects i l o e
+pub collects_all : (n c : ℕ) (w : World) → Kept n w → Swept n c w → Fairly n c (seen n w).net → Exactly n (plays n (collects n w) w) × LinesMatter n (plays n (collects n w) w)
+collects_all n c w k s f =
+    let t = each_brings n (Tidy n) (λ i v. calling n i call.Collect v) (λ a v l x t. tidy_more n a v l x t) n w k
+    (record { lines = λ j l e m. has_back n w (f.lines j e m (le_of_eq (sym ((s j l).1 e m)))); objects = λ j l. absurd (none_below l) }) (omega arith) in
+    (λ i o l e. t.objects i l o e, t.lines)
