@@ -19,6 +19,7 @@ pub mod FairSteps
 pub mod FairWays
 pub mod SettledWord
 pub mod SettledWords
+pub mod Apart
 pub mod SettledJoins
 pub mod SettledCollects
 pub mod Settled

@@ -1,6 +1,7 @@
 pub mod Play
 pub mod Seen
 pub mod Promise
+pub mod Apart
 pub mod Settle
 pub mod Exact
 pub mod Bound
