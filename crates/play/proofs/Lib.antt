@@ -47,3 +47,5 @@ pub mod BoundCalls
 pub mod BoundPasses
 pub mod Bounds
 pub mod Careless
+pub mod Shifted
+pub mod ExactPart

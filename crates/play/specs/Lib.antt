@@ -5,5 +5,6 @@ pub mod Apart
 pub mod Settle
 pub mod Exact
 pub mod Bound
+pub mod ExactPart
 pub mod Cases
 pub mod Careless
