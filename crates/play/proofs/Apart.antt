@@ -128,6 +128,7 @@ part_safe n some few w p =
     let whole = always_safe n some few (record { house = w.house; sent = p.all }) p.reached in
     record {
       all = p.all;
+      reached = p.reached;
       among = p.among;
       safe = whole;
       there = λ j o h. let t = whole.there j o (fewer n w.house w.sent p.all p.among h) in record { present_at_home = t.present_at_home; known = t.known };

@@ -37,6 +37,7 @@ settles_part n some few w p low =
     record {
       all = p.all;
       new = b.new;
+      reached = p.reached;
       among = p.among;
       grown = ap (λ (u : World). u.sent) b.left;
       settles = subst (λ (h : ℕ → House). Settles n (whole n w p) (world h (p.all ++ b.new))) (sym (ap (λ (u : World). u.house) b.left))

@@ -24,6 +24,7 @@ pub record PartOf (n : ℕ) (w : World) : Type 0 where
 pub record SafePart (n : ℕ) (w : World) : Type 0 where
   -- all that was ever sent
   pub all : List (List ℕ)
+  pub reached : Reach n (record { house = w.house; sent = all })
   pub among : Among w.sent all
   -- the whole promise, over all that was sent: so it holds whatever of it still comes
   pub safe : Safe n (record { house = w.house; sent = all })

@@ -1,7 +1,7 @@
 -- What is promised of the collector's entries where only a part of what was sent is left.
 use Rattle.std.specs.Prelude.{◌≡◌, ℕ, suc, ◌+◌, ◌*◌, ◌<◌, ◌≤◌, List, ◌++◌, length}
 use Rattle.rules.specs.House.{House, census}
-use Rattle.play.specs.Play.{World, plays}
+use Rattle.play.specs.Play.{World, plays, Reach}
 use Rattle.play.specs.Settle.{settling}
 use Rattle.play.specs.Apart.{Among, PartOf}
 use Rattle.play.specs.Exact.{Settles, AllCleaning}
@@ -25,6 +25,7 @@ pub record SettlesPart (n : ℕ) (w v : World) : Type 0 where
   -- all that was sent before, and what is sent now
   pub all : List (List ℕ)
   pub new : List (List ℕ)
+  pub reached : Reach n (record { house = w.house; sent = all })
   pub among : Among w.sent all
   pub grown : v.sent ≡ w.sent ++ new
   pub settles : Settles n (record { house = w.house; sent = all }) (record { house = v.house; sent = all ++ new })
