@@ -77,22 +77,6 @@ impl Lines<'_> {
         self.objects_where(|line| line.census == census, into)
     }
 
-    // The same of the lines that a join of this census now would give the number to, or that have it.
-    pub fn objects_joining<'b>(
-        &self,
-        census: Census,
-        stamps: &Stamps,
-        into: &'b mut [Name; 2048],
-    ) -> &'b [Name]
-        ensures names { result.now ≡ map name (objects_in census.0 (joined census.0 (heard_from stamps.now) (lines self.now))) }
-        ensures within { length result.now ≤ 2048 }
-    {
-        self.objects_where(
-            |line| is_unheard(line, stamps) || line.census == census,
-            into,
-        )
-    }
-
     // The objects of the lines that pass the test, in their order, written to the front of `into`.
     fn objects_where<'b, F: Fn(Line) -> bool>(
         &self,

@@ -9,7 +9,11 @@ use Rattle.std.specs.declared.alloc.AllocError.{AllocError}
 use Rattle.std.specs.declared.alloc.Global.{Global}
 use Rattle.tables.specs.Met.{Lists}
 use Rattle.objects.specs.Laws.{Sole}
-use Rattle.rules.specs.Step.{bytes_of}
+use Rattle.wire.specs.declared.names.Census.{Census}
+use Rattle.lines.specs.Listed.{objects_in}
+use Rattle.objects.specs.Executed.{names_in_use}
+use Rattle.rules.specs.House.{House, census}
+use Rattle.rules.specs.Step.{bytes_of, used}
 
 numbers_names : (os : List ℕ) → numbers (map name os) ≡ os
 numbers_names [] = refl
@@ -33,6 +37,10 @@ pub found : (r : Result (Vec Name Global) AllocError) (P : ℕ → Type 0) (os :
 found (Ok v) P os sole l = sym (sole os l)
 found (Err e) P os sole l = tt
 
-pub found_also : (r : Result (Vec Name Global) AllocError) (os qs : List ℕ) → os ≡ qs → IfOk r (λ v. numbers (vec_items v) ≡ os) → IfOk r (λ v. numbers (vec_items v) ≡ qs)
-found_also (Ok v) os qs e h = h ∙ e
-found_also (Err x) os qs e h = tt
+-- what is met from the roots and the objects of the lines with the house's census is what is in use
+pub in_use_of : (h : House) (c : Census) (ns : List Name) → c.0 ≡ census h → ns ≡ map name (objects_in c.0 h.list) → names_in_use (numbers ns) h.heap ≡ used h
+in_use_of h c ns e f = ap (λ l. names_in_use l h.heap) (back ns (objects_in c.0 h.list) f ∙ ap (λ k. objects_in k h.list) e)
+
+-- and so are the names that were listed so
+pub listed_in_use : (h : House) (c : Census) (ns us vs : List Name) → c.0 ≡ census h → ns ≡ map name (objects_in c.0 h.list) → numbers us ≡ names_in_use (numbers ns) h.heap → vs ≡ us → numbers vs ≡ used h
+listed_in_use h c ns us vs e f g k = ap numbers k ∙ g ∙ in_use_of h c ns e f

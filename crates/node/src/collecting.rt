@@ -54,10 +54,10 @@ impl Head {
         };
         let (standing, due) = self.standing.tell(&in_use);
         self.standing = standing;
-        let answer = due
-            .map(|names| Sent::Tellings(census, tables.list.home, names))
-            .map_err(Fault::from);
-        (self, answer)
+        let Ok(names) = due else {
+            return (self, Err(Fault::NoMemory));
+        };
+        (self, Ok(Sent::Tellings(census, tables.list.home, names)))
     }
 
     // Whether every far reference in use was told in the house's census. They are not listed for that, so that a round wants no memory.
@@ -134,7 +134,8 @@ fn met_from(heap: Global, objects: &Objects, names: &[Name]) -> Result<Vec<Name>
 
 // Names as a word has them, four bytes each.
 fn name_bytes(heap: Global, names: &[Name]) -> Result<Vec<u8>, AllocError>
-    ensures { IfOk result (λ v. v.items ≡ bytes_of (numbers names.now)) }
+    ensures bytes { IfOk result (λ v. v.items ≡ bytes_of (numbers names.now)) }
+    ensures asks { OnErr result (is_listed (numbers names.now) ≡ true) }
 {
     let mut out = Vec::new(heap);
     for name in names {
