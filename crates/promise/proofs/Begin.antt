@@ -5,7 +5,7 @@ use mathlib.Core.List.{Memᴰ}
 use Rattle.wire.specs.Names.{home}
 use Rattle.lines.specs.Listed.{Listed}
 use Rattle.promise.specs.Net.{Mark, Complete}
-use Rattle.promise.specs.Rounds.{Slot, none, some, Desk, idle, Note, Round, Reply, World, AllIn, census_of, Turn, Runs, Later}
+use Rattle.promise.specs.Rounds.{Slot, none, some, Desk, idle, Note, Round, Reply, World, AllIn, census_of, Turn, Runs}
 use Rattle.promise.proofs.Base.{last, none_below, same?}
 use Rattle.promise.proofs.Lines.{mem→listed_in, listed→mem}
 use Rattle.promise.proofs.Inv.{view, MarkOk, used→mt}
@@ -14,15 +14,15 @@ use Rattle.promise.proofs.Effect.{Quiet}
 use Rattle.promise.proofs.Turns.{RoundOk, ReplyOk, NoteOk, Held, Grows, held_keeps, Doomed, Outcome, Desked}
 use Rattle.promise.proofs.Grow.{old_reply, desk_grows}
 
-pub record Fit (houses : ℕ) (w : World) : Type 0 where
+pub record Fit {houses : ℕ} {w : World} (run : Runs houses w) : Type 0 where
   pub held : Held houses w
-  pub desked : Desked houses w
+  pub desked : Desked run
 
 abbrev IsSome : Slot → Type 0
 IsSome none = ⊥
 IsSome (some b t) = Unit {0}
 
-pub idle_desked : {houses : ℕ} {w : World} → w.desk ≡ idle → Desked houses w
+pub idle_desked : {houses : ℕ} {w : World} {run : Runs houses w} → w.desk ≡ idle → Desked run
 idle_desked {houses} {w} e =
     record {
       nows = λ i t b z. absurd (subst IsSome (sym (ap (λ (d : Desk). d.now i) (sym e) ∙ z)) tt);
@@ -32,7 +32,7 @@ idle_desked {houses} {w} e =
     }
 
 -- a new round is begun: the census is complete, or some house has moved
-module _ {houses : ℕ} (w : World) (ran : Runs houses w) (fit : Fit houses w) (somebody : 0 < houses) (ready : (w.desk.round ≡ 0) ⊎ AllIn houses w.desk.now) where
+module _ {houses : ℕ} (w : World) (ran : Runs houses w) (fit : Fit ran) (somebody : 0 < houses) (ready : (w.desk.round ≡ 0) ⊎ AllIn houses w.desk.now) where
   abbrev begun_world : World
   begun_world =
       record {
@@ -42,8 +42,8 @@ module _ {houses : ℕ} (w : World) (ran : Runs houses w) (fit : Fit houses w) (
         said = Round (census_of w 0) (suc w.desk.round) ∷ w.said;
       }
 
-  begin_turn : Turn houses w begun_world
-  begin_turn = Turn.begin w somebody ready
+  abbrev begun_run : Runs houses begun_world
+  begun_run = Runs.then ran (Turn.begin w somebody ready)
 
   begin_ok : RoundOk houses begun_world (census_of w 0) (suc w.desk.round)
   begin_ok =
@@ -134,14 +134,14 @@ module _ {houses : ℕ} (w : World) (ran : Runs houses w) (fit : Fit houses w) (
       level : (k : ℕ) (e : Listed) → Memᴰ e (w.net.house k).list → census_of w 0 ≤ e.census → e.census ≡ census_of w 0
       level k e m le = let l = fit.held.inv.lines k e m in let p = (f k l.housed).census in let q = l.low in omega arith
 
-  begin_ends : AllCalm → Outcome houses begun_world
+  begin_ends : AllCalm → Outcome begun_run
   begin_ends all =
       ⊎_elim (λ (z : Lost). inr z)
       (λ (f : (i : ℕ) → i < houses → Stays i). let k = all_stay f in
-      inl (raise houses fit.held.since w.net fit.held.inv (census_of w 0) k, record { then = w; ran = ran; on = Later.more Later.same begin_turn; census = refl; round = refl; complete = k }))
+      inl (raise houses fit.held.since w.net fit.held.inv (census_of w 0) k, record { then = w; begun = inr refl; census = refl; round = refl; complete = k }))
       (look_all all houses (omega arith))
 
-  begin_desked : Desked houses begun_world
+  begin_desked : Desked begun_run
   begin_desked =
       record {
         nows = λ i t b z. absurd (subst IsSome (sym z) tt);
@@ -153,5 +153,5 @@ module _ {houses : ℕ} (w : World) (ran : Runs houses w) (fit : Fit houses w) (
       less : {a b : ℕ} → suc a ≡ suc b → a ≡ b
       less e = omega arith
 
-  pub begin_fit : Fit houses begun_world
+  pub begin_fit : Fit begun_run
   begin_fit = record { held = held_keeps fit.held begin_grows fit.held.names fit.held.since fit.held.inv; desked = begin_desked }

@@ -3,7 +3,7 @@ use Rattle.std.proofs.Common.{◌≡◌, ℕ, List, ◌∷◌, sym, subst, ◌�
 use mathlib.Core.List.Memᴰ
 use mathlib.Core.List.{Memᴰ}
 use Rattle.promise.specs.Net.{Msg, Ask, Give, Word, Mark, Sweep, Net, Uses, Cleans}
-use Rattle.promise.specs.Rounds.{World, Ended, census_of, AsBefore, Turn, Runs, Later}
+use Rattle.promise.specs.Rounds.{World, Ended, census_of, AsBefore, Turn, Runs, Upto}
 use Rattle.promise.specs.Promise.{RoundsCalled}
 use Rattle.promise.proofs.Ends.{rounds_true}
 
@@ -60,6 +60,6 @@ pub rounds_called : RoundsCalled
 rounds_called houses small w Runs.begun c m = absurd (Memᴰ.not-nil m)
 rounds_called houses small w (Runs.then {w = before} ran t) c m =
     ⊎_elim
-    (λ old. let z = rounds_called houses small before ran c old in (z.0, Later.more z.1 t, z.2, z.3, z.4))
-    (λ now. (before, Later.more Later.same t, now.0, now.1, rounds_true houses small before ran now.1))
+    (λ old. let z = rounds_called houses small before ran c old in (z.0, z.1, Upto.on z.2 t, z.3, z.4, z.5))
+    (λ now. (before, ran, Upto.on Upto.all t, now.0, now.1, rounds_true houses small before ran now.1))
     (turn_news t c m)

@@ -3,7 +3,7 @@ use Rattle.std.proofs.Common.{◌≡◌, ℕ, ◌<◌, Bool, true, eqb, sym, ref
 use mathlib.Core.List.Memᴰ
 use mathlib.Core.List.{Memᴰ}
 use Rattle.promise.specs.Net.{Sweep, Cleans, sends}
-use Rattle.promise.specs.Rounds.{Slot, none, some, Desk, idle, Reply, World, set, stirs, Ended, census_of, Turn, Runs, Later, Alike}
+use Rattle.promise.specs.Rounds.{Slot, none, some, Desk, idle, Reply, World, set, stirs, Ended, census_of, Turn, Runs, Alike}
 use Rattle.promise.specs.Promise.{RoundsMain, RoundsTrue, RoundsStill}
 use Rattle.promise.proofs.Base.{eq→eqb, cond_elim, same?, same_at, set_elim}
 use Rattle.promise.proofs.Inv.{view, Inv, Names}
@@ -23,9 +23,8 @@ SlotP w j none = Unit {0}
 SlotP w j (some e u) = Memᴰ (Reply (census_of w 0) w.desk.round j e u) w.said
 
 -- an answer is noted
-note_fit : {houses : ℕ} (w : World) → Fit houses w → (i : ℕ) (b : Bool) (t : ℕ) → Memᴰ (Reply (census_of w 0) w.desk.round i b t) w.said →
-    Turn houses w (record { net = w.net; part = w.part; desk = record { round = w.desk.round; now = set i (some b t) w.desk.now; before = w.desk.before }; said = w.said }) →
-    Fit houses (record { net = w.net; part = w.part; desk = record { round = w.desk.round; now = set i (some b t) w.desk.now; before = w.desk.before }; said = w.said })
+note_fit : {houses : ℕ} (w : World) {run : Runs houses w} → Fit run → (i : ℕ) (b : Bool) (t : ℕ) → Memᴰ (Reply (census_of w 0) w.desk.round i b t) w.said →
+    (turn : Turn houses w (record { net = w.net; part = w.part; desk = record { round = w.desk.round; now = set i (some b t) w.desk.now; before = w.desk.before }; said = w.said })) → Fit (Runs.then run turn)
 note_fit {houses} w fit i b t sent turn =
     record {
       held = held_keeps h (desk_grows w h d w.said (omega arith) (λ y m. m) (λ y m. inl m) (λ c r j u m. m)) h.names h.since h.inv;
@@ -34,7 +33,7 @@ note_fit {houses} w fit i b t sent turn =
         asked = fit.desked.asked;
         befores = fit.desked.befores;
         ends = λ two all. ⊎_elim
-            (λ z. inl (z.0, record { then = z.1.then; ran = z.1.ran; on = Later.more z.1.on turn; census = z.1.census; round = z.1.round; complete = z.1.complete }))
+            (λ z. inl (z.0, record { then = z.1.then; begun = inl z.1.begun; census = z.1.census; round = z.1.round; complete = z.1.complete }))
             (λ z. inr (z.0, z.1, z.2, z.3, record { unsaid = z.4.unsaid; moved = z.4.moved })) (fit.desked.ends two all);
       };
     }
@@ -57,9 +56,9 @@ tally_of none = 0
 tally_of (some b t) = t
 
 -- the rounds have ended: the census is complete, or was since the last was begun
-ended_won : {houses : ℕ} {w : World} → Fit houses w → Ended houses w.desk → Won houses w
-ended_won {houses} {w} fit e =
-    ⊎_elim (λ (z : Won houses w). z)
+ended_won : {houses : ℕ} {w : World} {run : Runs houses w} → Fit run → Ended houses w.desk → Won run
+ended_won {houses} {w} {run} fit e =
+    ⊎_elim (λ (z : Won run). z)
     (λ (z : (i : ℕ) × (t : ℕ) × (i < houses) × (w.desk.before i ≡ some true t) × Doomed w i t).
     let s = e.same z.0 z.2 in
     let same : z.1 ≡ s.0 = ap tally_of (sym z.3 ∙ s.2) in
@@ -67,12 +66,12 @@ ended_won {houses} {w} fit e =
     (fit.desked.ends e.second (λ i l. let s = e.same i l in (s.0, s.2)))
 
 -- a turn that leaves house 0's rounds alone
-same_fit : {houses : ℕ} {w v : World} (fit : Fit houses w) → Turn houses w v → Grows houses fit.held.since w v → v.desk ≡ w.desk → census_of v 0 ≡ census_of w 0 → Names (view v.net) v.net.made →
-    ((c : ℕ) → Inv houses c (view w.net) → Inv houses c (view v.net)) → Fit houses v
+same_fit : {houses : ℕ} {w v : World} {run : Runs houses w} (fit : Fit run) → (turn : Turn houses w v) → Grows houses fit.held.since w v → v.desk ≡ w.desk → census_of v 0 ≡ census_of w 0 → Names (view v.net) v.net.made →
+    ((c : ℕ) → Inv houses c (view w.net) → Inv houses c (view v.net)) → Fit (Runs.then run turn)
 same_fit fit turn g ed ec names keep =
     record { held = held_keeps fit.held g names fit.held.since (keep fit.held.since fit.held.inv); desked = desk_keeps fit.held fit.desked g ed ec (keep _) turn }
 
-step_fit : {houses : ℕ} {w v : World} → Runs houses w → Fit houses w → Turn houses w v → Fit houses v
+step_fit : {houses : ℕ} {w v : World} (run : Runs houses w) → Fit run → (turn : Turn houses w v) → Fit (Runs.then run turn)
 step_fit {houses} ran fit (Turn.uses w {m = m} u) =
     let h = fit.held in
     let z = uses_moves {since = h.since} w.part u h.inv h.names in
@@ -127,7 +126,7 @@ step_fit {houses} ran fit (Turn.alike w v a) =
     same_desk : {w v : World} → Alike w v → v.desk ≡ w.desk
     same_desk a = λ t. record { round = (sym a.round) t; now = λ i. (sym (a.now i)) t; before = λ i. (sym (a.before i)) t }
 
-pub fits : {houses : ℕ} {w : World} → Runs houses w → Fit houses w
+pub fits : {houses : ℕ} {w : World} (run : Runs houses w) → Fit run
 fits {houses} Runs.begun =
     let g = start_good houses in
     record {
@@ -151,7 +150,7 @@ pub rounds_main : RoundsMain
 rounds_main houses small w r j o h = let g = (fits r).held in has_there houses g.since w.net g.inv h
 
 pub rounds_true : RoundsTrue
-rounds_true houses small w r e = let z = (ended_won (fits r) e).1 in (z.then, z.ran, z.on, z.census, z.round, z.complete)
+rounds_true houses small w r e = let z = (ended_won (fits r) e).1 in (z.then, z.begun, z.census, z.round, z.complete)
 
 pub rounds_still : RoundsStill
 rounds_still houses small w r e all = complete_from houses (census_of w 0) w.net (ended_won (fits r) e).0 all

@@ -3,7 +3,7 @@ use Rattle.std.proofs.Common.{◌≡◌, ℕ, zero, suc, ◌<◌, ◌≤◌, Boo
 use mathlib.Core.List.{Memᴰ}
 use Rattle.tables.specs.Model.{is_in}
 use Rattle.promise.specs.Net.{Mark, Complete}
-use Rattle.promise.specs.Rounds.{Part, some, Desk, Note, Answer, Round, Reply, World, census_of, Turn, Runs, Later}
+use Rattle.promise.specs.Rounds.{Part, some, Desk, Note, Answer, Round, Reply, World, census_of, Turn, Runs, Begins}
 use Rattle.promise.proofs.Base.{same?}
 use Rattle.promise.proofs.Inv.{view, MarkOk, Inv, Names}
 use Rattle.promise.proofs.Effect.{Fixed, Quiet, Effect, Meets, fixed_keeps, quiet_keeps}
@@ -140,11 +140,10 @@ held_keeps {houses} {w} {v} h g names s inv =
         safe (inl e) = inl (ok.one y.0 e, ns e)
         safe (inr f) = inr (ro.all (two ro.one f))
 
--- house 0's rounds
-pub record Past (houses : ℕ) (w : World) : Type 0 where
+-- house 0's rounds: when the run began the present one, the census was complete
+pub record Past {houses : ℕ} {w : World} (r : Runs houses w) : Type 0 where
   pub then : World
-  pub ran : Runs houses then
-  pub on : Later houses then w
+  pub begun : Begins r then
   pub census : census_of then 0 ≡ census_of w 0
   pub round : suc then.desk.round ≡ w.desk.round
   pub complete : Complete houses (census_of w 0) then.net
@@ -154,21 +153,21 @@ pub record Doomed (w : World) (i t : ℕ) : Type 0 where
   pub unsaid : Memᴰ (Reply (census_of w 0) w.desk.round i true t) w.said → ⊥
   pub moved : (census_of w 0 < census_of w i) ⊎ ((t < (w.part i).tally) ⊎ ((w.desk.round ≡ 2) × T (w.part i).stirred))
 
-abbrev pub Won : ℕ → World → Type 0
-Won houses w = Inv houses (census_of w 0) (view w.net) × Past houses w
+abbrev pub Won : {houses : ℕ} {w : World} → Runs houses w → Type 0
+Won {houses} {w} r = Inv houses (census_of w 0) (view w.net) × Past r
 
-abbrev pub Outcome : ℕ → World → Type 0
-Outcome houses w = Won houses w ⊎ ((i : ℕ) × (t : ℕ) × (i < houses) × (w.desk.before i ≡ some true t) × Doomed w i t)
+abbrev pub Outcome : {houses : ℕ} {w : World} → Runs houses w → Type 0
+Outcome {houses} {w} r = Won r ⊎ ((i : ℕ) × (t : ℕ) × (i < houses) × (w.desk.before i ≡ some true t) × Doomed w i t)
 
-pub record Desked (houses : ℕ) (w : World) : Type 0 where
+pub record Desked {houses : ℕ} {w : World} (run : Runs houses w) : Type 0 where
   pub nows : (i t : ℕ) (b : Bool) → w.desk.now i ≡ some b t → Memᴰ (Reply (census_of w 0) w.desk.round i b t) w.said
   pub asked : (r : ℕ) → w.desk.round ≡ suc r → Memᴰ (Round (census_of w 0) (suc r)) w.said
   pub befores : (i t : ℕ) (b : Bool) (r : ℕ) → w.desk.round ≡ suc r → w.desk.before i ≡ some b t → Memᴰ (Reply (census_of w 0) r i b t) w.said
-  pub ends : 2 ≤ w.desk.round → ((i : ℕ) → i < houses → (t : ℕ) × (w.desk.before i ≡ some true t)) → Outcome houses w
+  pub ends : 2 ≤ w.desk.round → ((i : ℕ) → i < houses → (t : ℕ) × (w.desk.before i ≡ some true t)) → Outcome run
 
-pub desk_keeps : {houses : ℕ} {w v : World} (h : Held houses w) → Desked houses w → Grows houses h.since w v → v.desk ≡ w.desk → census_of v 0 ≡ census_of w 0 →
-    (Inv houses (census_of w 0) (view w.net) → Inv houses (census_of w 0) (view v.net)) → Turn houses w v → Desked houses v
-desk_keeps {houses} {w} {v} h d g ed ec keep turn =
+pub desk_keeps : {houses : ℕ} {w v : World} {run : Runs houses w} (h : Held houses w) → Desked run → Grows houses h.since w v → v.desk ≡ w.desk → census_of v 0 ≡ census_of w 0 →
+    (Inv houses (census_of w 0) (view w.net) → Inv houses (census_of w 0) (view v.net)) → (turn : Turn houses w v) → Desked (Runs.then run turn)
+desk_keeps {houses} {w} {v} {run} h d g ed ec keep turn =
     record {
       nows = λ i t b e. g.said _ (moved (λ x. x.round) i b t (d.nows i t b (ap (λ (x : Desk). x.now i) (sym ed) ∙ e)));
       asked = λ r er. g.said _ (subst (λ (x : ℕ). Memᴰ (Round x (suc r)) w.said) (sym ec) (d.asked r (ap (λ (x : Desk). x.round) (sym ed) ∙ er)));
@@ -182,12 +181,11 @@ desk_keeps {houses} {w} {v} h d g ed ec keep turn =
     moved : (f : Desk → ℕ) (i : ℕ) (b : Bool) (t : ℕ) → Memᴰ (Reply (census_of w 0) (f w.desk) i b t) w.said → Memᴰ (Reply (census_of v 0) (f v.desk) i b t) w.said
     moved f i b t m = subst (λ (x : ℕ). Memᴰ (Reply x (f v.desk) i b t) w.said) (sym ec) (subst (λ (x : Desk). Memᴰ (Reply (census_of w 0) (f x) i b t) w.said) (sym ed) m)
 
-    past : Past houses w → Past houses v
+    past : Past run → Past (Runs.then run turn)
     past p =
         record {
           then = p.then;
-          ran = p.ran;
-          on = Later.more p.on turn;
+          begun = inl p.begun;
           census = p.census ∙ sym ec;
           round = p.round ∙ ap (λ (x : Desk). x.round) (sym ed);
           complete = subst (λ (x : ℕ). Complete houses x p.then.net) (sym ec) p.complete;

@@ -7,7 +7,7 @@ use Rattle.tables.specs.Met.{everywhere}
 use Rattle.lines.specs.Listed.{listed, listed_in}
 use Rattle.promise.specs.House.{count_of}
 use Rattle.promise.specs.Net.{Ask, Give, Sweep, Net, Complete}
-use Rattle.promise.specs.Rounds.{World, census_of, Ended, Turn, Runs, Later}
+use Rattle.promise.specs.Rounds.{World, census_of, Ended, Turn, Runs, Begins, Upto}
 
 -- House j has a reference that matters: as a root, on its way to it, or in a field of an object of its own that somebody has a reference to that matters.
 pub data Has (n : Net) : ℕ → ℕ → Type 0 where
@@ -33,21 +33,21 @@ pub data Anywhere (n : Net) : ℕ → Type 0 where
 abbrev pub RoundsMain : Type 0
 RoundsMain = (houses : ℕ) → houses ≤ 16 → (w : World) → Runs houses w → (j o : ℕ) → Has w.net j o → There w.net j o
 
--- the census of w was complete at the moment when the last round of w was begun
-abbrev pub WasComplete : ℕ → World → Type 0
-WasComplete houses w = (v : World) × Runs houses v × Later houses v w × (census_of v 0 ≡ census_of w 0) × (suc v.desk.round ≡ w.desk.round) × Complete houses (census_of w 0) v.net
+-- the census that the run r ends in was complete in the very world in which r began the round that it ends in
+abbrev pub WasComplete : {houses : ℕ} {w : World} → Runs houses w → Type 0
+WasComplete {houses} {w} r = (v : World) × Begins r v × (census_of v 0 ≡ census_of w 0) × (suc v.desk.round ≡ w.desk.round) × Complete houses (census_of w 0) v.net
 
 -- Where the rounds have ended, the census was complete.
 abbrev pub RoundsTrue : Type 0
-RoundsTrue = (houses : ℕ) → houses ≤ 16 → (w : World) → Runs houses w → Ended houses w.desk → WasComplete houses w
+RoundsTrue = (houses : ℕ) → houses ≤ 16 → (w : World) → (r : Runs houses w) → Ended houses w.desk → WasComplete r
 
--- before w, or now, the rounds of census c had ended, and it was complete
-abbrev pub Called : ℕ → ℕ → World → Type 0
-Called houses c w = (u : World) × Later houses u w × (census_of u 0 ≡ c) × Ended houses u.desk × WasComplete houses u
+-- at some moment of the run r, or at its end, the rounds of census c had ended, and it was complete when the run up to then had begun the last of them
+abbrev pub Called : {houses : ℕ} → ℕ → {w : World} → Runs houses w → Type 0
+Called {houses} c {w} r = (u : World) × (q : Runs houses u) × Upto q w r × (census_of u 0 ≡ c) × Ended houses u.desk × WasComplete q
 
 -- Wherever the news is among the messages that a census is complete, however old, it was.
 abbrev pub RoundsCalled : Type 0
-RoundsCalled = (houses : ℕ) → houses ≤ 16 → (w : World) → Runs houses w → (c : ℕ) → Memᴰ (Sweep c) w.net.sent → Called houses c w
+RoundsCalled = (houses : ℕ) → houses ≤ 16 → (w : World) → (r : Runs houses w) → (c : ℕ) → Memᴰ (Sweep c) w.net.sent → Called c r
 
 -- And it still is, if no house has joined the next since.
 abbrev pub RoundsStill : Type 0
