@@ -5,7 +5,7 @@ use mathlib.Core.List.{Memᴰ}
 use Rattle.wire.specs.Names.{home}
 use Rattle.lines.specs.Listed.{Listed}
 use Rattle.promise.specs.Net.{Mark, Complete}
-use Rattle.promise.specs.Rounds.{Slot, none, some, Desk, idle, Note, Round, Reply, World, AllIn, census_of, Turn, Runs}
+use Rattle.promise.specs.Rounds.{Slot, none, some, Desk, idle, Note, Round, Reply, World, AllIn, census_of, Turn, Runs, Upto}
 use Rattle.promise.proofs.Base.{last, none_below, same?}
 use Rattle.promise.proofs.Lines.{mem→listed_in, listed→mem}
 use Rattle.promise.proofs.Inv.{view, MarkOk, used→mt}
@@ -138,7 +138,7 @@ module _ {houses : ℕ} (w : World) (ran : Runs houses w) (fit : Fit ran) (someb
   begin_ends all =
       ⊎_elim (λ (z : Lost). inr z)
       (λ (f : (i : ℕ) → i < houses → Stays i). let k = all_stay f in
-      inl (raise houses fit.held.since w.net fit.held.inv (census_of w 0) k, record { then = w; begun = inr refl; census = refl; round = refl; complete = k }))
+      inl (raise houses fit.held.since w.net fit.held.inv (census_of w 0) k, record { then = w; begun = (begun_world, ran, Turn.begin w somebody ready, refl, Upto.all); census = refl; round = refl; complete = k }))
       (look_all all houses (omega arith))
 
   begin_desked : Desked begun_run

@@ -1,5 +1,5 @@
 -- The news that a census is complete is sent only when its rounds have ended.
-use Rattle.std.proofs.Common.{◌≡◌, ℕ, List, ◌∷◌, sym, subst, ◌⊎◌, inl, inr, ⊎_elim}
+use Rattle.std.proofs.Common.{◌≡◌, ℕ, Bool, true, false, List, ◌∷◌, sym, subst, ◌⊎◌, refl, inl, inr, ⊎_elim}
 use mathlib.Core.List.Memᴰ
 use mathlib.Core.List.{Memᴰ}
 use Rattle.promise.specs.Net.{Msg, Ask, Give, Word, Mark, Sweep, Net, Uses, Cleans}
@@ -39,8 +39,13 @@ cleans_old (Cleans.mark n k o i a b d) z c m = absurd z
 cleans_old (Cleans.complete n d a k) z c m = absurd z
 cleans_old (Cleans.sweep n i a b) z c m = m
 
+-- the turn sends the news that the census is complete
+abbrev pub tells : {houses : ℕ} {w v : World} → Turn houses w v → Bool
+tells (Turn.complete w e) = true
+tells t = false
+
 -- the news is old, or the rounds have ended just now
-turn_news : {houses : ℕ} {w v : World} → Turn houses w v → (c : ℕ) → Memᴰ (Sweep c) v.net.sent → Memᴰ (Sweep c) w.net.sent ⊎ ((census_of w 0 ≡ c) × Ended houses w.desk)
+pub turn_news : {houses : ℕ} {w v : World} (t : Turn houses w v) → (c : ℕ) → Memᴰ (Sweep c) v.net.sent → Memᴰ (Sweep c) w.net.sent ⊎ ((tells t ≡ true) × (census_of w 0 ≡ c) × Ended houses w.desk)
 turn_news (Turn.uses w u) c m = inl (uses_old u c m)
 turn_news (Turn.cleans w s a) c m = inl (cleans_old s a c m)
 turn_news (Turn.join w i d a b) c m = inl m
@@ -50,7 +55,7 @@ turn_news (Turn.answer w i o a b d) c m = inl m
 turn_news (Turn.begin w a b) c m = inl m
 turn_news (Turn.reply w i r b a d e f) c m = inl m
 turn_news (Turn.note w i b t a d e) c m = inl m
-turn_news (Turn.complete w e) c m = ⊎_elim (λ q. inr (same c (census_of w 0) q, e)) (λ r. inl r) (Memᴰ.cases_cons m)
+turn_news (Turn.complete w e) c m = ⊎_elim (λ q. inr (refl, same c (census_of w 0) q, e)) (λ r. inl r) (Memᴰ.cases_cons m)
   where
     same : (a b : ℕ) → Sweep a ≡ Sweep b → b ≡ a
     same a b q = cc
@@ -61,5 +66,5 @@ rounds_called houses small w Runs.begun c m = absurd (Memᴰ.not-nil m)
 rounds_called houses small w (Runs.then {w = before} ran t) c m =
     ⊎_elim
     (λ old. let z = rounds_called houses small before ran c old in (z.0, z.1, Upto.on z.2 t, z.3, z.4, z.5))
-    (λ now. (before, ran, Upto.on Upto.all t, now.0, now.1, rounds_true houses small before ran now.1))
+    (λ now. (before, ran, Upto.on Upto.all t, now.1, now.2, rounds_true houses small before ran now.2))
     (turn_news t c m)

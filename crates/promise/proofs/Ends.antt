@@ -13,7 +13,7 @@ use Rattle.promise.proofs.Steps.{easy, uses_names, cleans_names, uses_inv, clean
 use Rattle.promise.proofs.Stand.{has_there}
 use Rattle.promise.proofs.Effect.{effect_none}
 use Rattle.promise.proofs.Alike.{alike_inv, alike_names}
-use Rattle.promise.proofs.Turns.{Held, wider_same, Grows, held_keeps, Doomed, Won, desk_keeps}
+use Rattle.promise.proofs.Turns.{Held, wider_same, Grows, held_keeps, Doomed, Won, begins_on, desk_keeps}
 use Rattle.promise.proofs.Moves.{uses_moves, cleans_moves, no_mark}
 use Rattle.promise.proofs.Grow.{moves_grows, desk_grows, joined_world, join_other, join_grows, tell_grows, lined, mark_grows, reply_grows, answer_grows, alike_grows}
 use Rattle.promise.proofs.Begin.{Fit, idle_desked, begin_fit}
@@ -33,7 +33,7 @@ note_fit {houses} w fit i b t sent turn =
         asked = fit.desked.asked;
         befores = fit.desked.befores;
         ends = λ two all. ⊎_elim
-            (λ z. inl (z.0, record { then = z.1.then; begun = inl z.1.begun; census = z.1.census; round = z.1.round; complete = z.1.complete }))
+            (λ z. inl (z.0, record { then = z.1.then; begun = begins_on z.1.begun turn; census = z.1.census; round = z.1.round; complete = z.1.complete }))
             (λ z. inr (z.0, z.1, z.2, z.3, record { unsaid = z.4.unsaid; moved = z.4.moved })) (fit.desked.ends two all);
       };
     }

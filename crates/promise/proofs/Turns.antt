@@ -3,7 +3,7 @@ use Rattle.std.proofs.Common.{◌≡◌, ℕ, zero, suc, ◌<◌, ◌≤◌, Boo
 use mathlib.Core.List.{Memᴰ}
 use Rattle.tables.specs.Model.{is_in}
 use Rattle.promise.specs.Net.{Mark, Complete}
-use Rattle.promise.specs.Rounds.{Part, some, Desk, Note, Answer, Round, Reply, World, census_of, Turn, Runs, Begins}
+use Rattle.promise.specs.Rounds.{Part, some, Desk, Note, Answer, Round, Reply, World, census_of, Turn, Runs, Upto, Begins}
 use Rattle.promise.proofs.Base.{same?}
 use Rattle.promise.proofs.Inv.{view, MarkOk, Inv, Names}
 use Rattle.promise.proofs.Effect.{Fixed, Quiet, Effect, Meets, fixed_keeps, quiet_keeps}
@@ -148,6 +148,10 @@ pub record Past {houses : ℕ} {w : World} (r : Runs houses w) : Type 0 where
   pub round : suc then.desk.round ≡ w.desk.round
   pub complete : Complete houses (census_of w 0) then.net
 
+-- and a turn later it had begun it
+pub begins_on : {houses : ℕ} {w v then : World} {r : Runs houses w} → Begins r then → (turn : Turn houses w v) → Begins (Runs.then r turn) then
+begins_on b turn = (b.0, b.1, b.2, b.3, Upto.on b.4 turn)
+
 -- house i has moved since it answered the round before, and no answer that agrees with that is or will be there
 pub record Doomed (w : World) (i t : ℕ) : Type 0 where
   pub unsaid : Memᴰ (Reply (census_of w 0) w.desk.round i true t) w.said → ⊥
@@ -185,7 +189,7 @@ desk_keeps {houses} {w} {v} {run} h d g ed ec keep turn =
     past p =
         record {
           then = p.then;
-          begun = inl p.begun;
+          begun = begins_on p.begun turn;
           census = p.census ∙ sym ec;
           round = p.round ∙ ap (λ (x : Desk). x.round) (sym ed);
           complete = subst (λ (x : ℕ). Complete houses x p.then.net) (sym ec) p.complete;

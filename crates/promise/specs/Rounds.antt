@@ -167,26 +167,16 @@ pub data Runs (houses : ℕ) : World → Type 0 where
   begun : Runs houses first
   then : {w v : World} → Runs houses w → Turn houses w v → Runs houses v
 
--- the turn begins a round, in the world v
-abbrev pub BeginsIn : {houses : ℕ} {w u : World} → Turn houses w u → World → Type 0
-BeginsIn (Turn.uses w u) v = ⊥
-BeginsIn (Turn.cleans w s a) v = ⊥
-BeginsIn (Turn.join w i c a b) v = ⊥
-BeginsIn (Turn.tell w i o a b d) v = ⊥
-BeginsIn (Turn.mark w k o i a b d) v = ⊥
-BeginsIn (Turn.answer w i o a b d) v = ⊥
-BeginsIn (Turn.begin w a b) v = w ≡ v
-BeginsIn (Turn.reply w i r b a d e f) v = ⊥
-BeginsIn (Turn.note w i b t a d e) v = ⊥
-BeginsIn (Turn.complete w a) v = ⊥
-BeginsIn (Turn.alike w u a) v = ⊥
-
--- the run comes to the world v, and there its next turn begins a round
-abbrev pub Begins : {houses : ℕ} {w : World} → Runs houses w → World → Type 0
-Begins Runs.begun v = ⊥
-Begins (Runs.then r t) v = Begins r v ⊎ BeginsIn t v
-
 -- the run q is the run r up to some moment of it
 pub data Upto {houses : ℕ} {u : World} (q : Runs houses u) : (w : World) → Runs houses w → Type 0 where
   all : Upto q u q
   on : {w v : World} {r : Runs houses w} → Upto q w r → (t : Turn houses w v) → Upto q v (Runs.then r t)
+
+-- the turn begins a round
+abbrev pub begins : {houses : ℕ} {w v : World} → Turn houses w v → Bool
+begins (Turn.begin w a b) = true
+begins t = false
+
+-- the run r comes to the world v, and there its next turn begins a round
+abbrev pub Begins : {houses : ℕ} {w : World} → Runs houses w → World → Type 0
+Begins {houses} {w} r v = (u : World) × (q : Runs houses v) × (t : Turn houses v u) × (begins t ≡ true) × Upto (Runs.then q t) w r
