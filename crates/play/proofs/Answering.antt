@@ -16,7 +16,7 @@ use Rattle.play.specs.Play.{World}
 use Rattle.play.specs.Seen.{part_seen, answered_names, seen}
 use Rattle.play.proofs.Sending.{both_refl}
 use Rattle.play.proofs.Firm.{Firm}
-use Rattle.play.proofs.Frame.{Way, Tracks, tracks_unless, arrives, alike_by, house_kept, house_refl, part_put, part_kept, part_refl, made_kept, desk_kept}
+use Rattle.play.proofs.Frame.{Way, free, Tracks, tracks_unless, arrives, alike_by, house_kept, house_refl, part_put, part_kept, part_refl, made_kept, desk_kept}
 use Rattle.play.proofs.Likeness.{same_test}
 use Rattle.play.proofs.Programs.{truth}
 use Rattle.play.proofs.Marking.{answered_in_part}
@@ -45,7 +45,7 @@ module _ (n i : ℕ) (w : World) (f : Firm n i (w.house i)) where
 
   tracks_settled : (o : ℕ) → Memᴰ (Answer (rules.census h) o i) (seen n w).said → (b : Bool) → is_in o (names h.part.told) ≡ b → Tracks true n i w (sends [] (rules.with_part (census.with_told (settled o h.part.told) h.part) h))
   tracks_settled o heard true e r =
-      arrives n i w new true [] _ (Way.more Way.same (Turn.answer (seen n w) i o f.inside heard (truth e)) (λ _. tt))
+      arrives n i w new true [] _ (Way.more Way.same (Turn.answer (seen n w) i o f.inside heard (truth e)) free free (λ _. tt))
       (alike_by n i w new [] (record { net = (seen n w).net; part = promise.set i (promise.hearing o (part_seen (w.house i).part)) (seen n w).part; desk = (seen n w).desk; said = (seen n w).said }) r
       (house_kept w i new (house_refl _)) (made_kept w i new refl) (part_put w i new (promise.hearing o (part_seen (w.house i).part)) (part_settled o (w.house i).part e)) (w.house 0).desk refl (desk_kept w i new refl) (both_refl _) (both_refl _))
     where

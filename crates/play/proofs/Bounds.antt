@@ -15,7 +15,7 @@ use Rattle.play.specs.Exact.{Joined, AllCleaning}
 use Rattle.play.specs.Bound.{line_count, most, Bounded, FewLines, calls_in, is_tell, FewPasses}
 use Rattle.play.specs.Settle.{and_then, calling, each, word_to, words, above, joins, tallies, passes, rounding, collects, completing, settling}
 use Rattle.play.proofs.Programs.{truth}
-use Rattle.play.proofs.Promise.{has_back, safe}
+use Rattle.play.proofs.Promise.{has_back, has_there}
 use Rattle.play.proofs.Tracking.{Kept, kept}
 use Rattle.play.proofs.FairEntries.{plays_append, kept_plays, way_plays, each_brings}
 use Rattle.play.proofs.FairPump.{cleanly_words, cleanly_joins, cleanly_completing}
@@ -141,7 +141,7 @@ told_few n c w some x fair own =
         let said = spoken_of x.runs i o (truth m) in
         let has = has_back n w (fair.spoken (rules.census (w.house i)) o i (le_of_eq (sym (own i l))) said) in
         let part = (x.sound i l).part in
-        (home o, subst (λ (z : ℕ). home o < z) (x.houses i l) (part.named o m).near, ⊎_elim (λ e. absurd (part.far o m (e ∙ sym (x.self i l)))) (λ e. e) ((safe n w some x).there i o has).known)
+        (home o, subst (λ (z : ℕ). home o < z) (x.houses i l) (part.named o m).near, ⊎_elim (λ e. absurd (part.far o m (e ∙ sym (x.self i l)))) (λ e. e) (has_there n w x i o has).known)
 
 module _ (n : ℕ) (w : World) (some : 0 < n) (k : Kept n w) (low : (i : ℕ) → i < n → rules.census (w.house i) < 4294967295) where
   abbrev told : World

@@ -10,12 +10,13 @@ use Rattle.promise.specs.Rounds as promise
 use Rattle.play.specs.Play.{World, put, written}
 use Rattle.play.specs.Seen.{seen}
 use Rattle.play.proofs.Firm.{Firm}
-use Rattle.play.proofs.Frame.{Way, Tracks}
+use Rattle.play.proofs.Frame.{Deed, Way, Tracks}
 use Rattle.play.proofs.Cleaning.{tracks_joined}
 
-pub way_on : {cleaning : Bool} {n : ℕ} {a b c : promise.World} → Way cleaning n a b → Way cleaning n b c → Way cleaning n a c
+-- then steps that leave the rounds alone
+way_on : {d : Deed} {cleaning : Bool} {n : ℕ} {a b c : promise.World} → Way d cleaning n a b → Way Deed.leaves cleaning n b c → Way d cleaning n a c
 way_on l Way.same = l
-way_on l (Way.more m t g) = Way.more (way_on l m) t g
+way_on l (Way.more m t f s g) = Way.more (way_on l m) t (λ e. absurd (f e)) (λ e. absurd (s e)) g
 
 pub put_here : {A : Type 0} (i : ℕ) (x : A) (f : ℕ → A) → put i x f i ≡ x
 put_here i x f = cond-true (eqb i i) x (f i) (eq-eqb i i refl)
@@ -62,9 +63,9 @@ module _ (n i : ℕ) (w : World) (f : Firm n i (w.house i)) (c : ℕ) where
       here : put i (in_census c (w.house i)) w.house i ≡ in_census c (w.house i)
       here = put_here i (in_census c (w.house i)) w.house
 
-      joins : rules.census (w.house i) < c → Way true n (seen n w) (seen n joined_to)
+      joins : rules.census (w.house i) < c → Way Deed.leaves true n (seen n w) (seen n joined_to)
       joins lt =
-          subst (λ (bss : List (List ℕ)). Way true n (seen n w) (seen n (record { house = put i (in_census c (w.house i)) w.house; sent = bss }))) (append-nil w.sent)
+          subst (λ (bss : List (List ℕ)). Way Deed.leaves true n (seen n w) (seen n (record { house = put i (in_census c (w.house i)) w.house; sent = bss }))) (append-nil w.sent)
           (tracks_joined n i w f c lt (λ l m. absurd (Memᴰ.not-nil m)))
 
       then : Tracks true n i joined_to (F (in_census c (w.house i)))
@@ -74,6 +75,6 @@ module _ (n i : ℕ) (w : World) (f : Firm n i (w.house i)) (c : ℕ) where
 
       go : (b : Bool) → ltb (rules.census (w.house i)) c ≡ b → Tracks true n i w (F (cond b (in_census c (w.house i)) (w.house i)))
       go true e r =
-          subst (λ (hs : ℕ → rules.House). Way true n (seen n w) (seen n (record { house = hs; sent = w.sent ++ written (F (in_census c (w.house i))).answer })))
+          subst (λ (hs : ℕ → rules.House). Way Deed.leaves true n (seen n w) (seen n (record { house = hs; sent = w.sent ++ written (F (in_census c (w.house i))).answer })))
           (put_again i (F (in_census c (w.house i))).house (in_census c (w.house i)) w.house) (way_on (joins (ltb-true (rules.census (w.house i)) c e)) (then r))
       go false e r = g w f (same low (ltb-false (rules.census (w.house i)) c e)) refl r

@@ -28,7 +28,7 @@ use Rattle.play.specs.Play.{World}
 use Rattle.play.specs.Seen.{house_seen, desk_seen, slot_seen, seen}
 use Rattle.play.proofs.Sending.{both_refl}
 use Rattle.play.proofs.Firm.{Firm}
-use Rattle.play.proofs.Frame.{Way, Tracks, tracks_unless, tracks_house, tracks_send, arrives, alike_by, house_put, house_refl, objects_refl, part_put, part_refl, made_kept}
+use Rattle.play.proofs.Frame.{Way, free, Tracks, tracks_unless, tracks_house, tracks_send, arrives, alike_by, house_put, house_refl, objects_refl, part_put, part_refl, made_kept}
 use Rattle.play.proofs.Programs.{truth}
 use Rattle.play.proofs.Handing.{set_entry}
 
@@ -80,7 +80,7 @@ module _ (n i : ℕ) (w : World) (f : Firm n i (w.house i)) where
 
   pub tracks_collect : Tracks true n i w (step h collect)
   tracks_collect =
-      tracks_house true n i w (rules.with_heap kept h) (with_objects kept.objects (house_seen h)) (Turn.cleans (seen n w) (Cleans.collect (seen n w).net i kept.objects f.inside leaves) tt) (λ _. tt)
+      tracks_house true n i w (rules.with_heap kept h) (with_objects kept.objects (house_seen h)) (Turn.cleans (seen n w) (Cleans.collect (seen n w).net i kept.objects f.inside leaves) tt) free free (λ _. tt)
       (record { roots = λ q. refl; objects = objects_refl _; list = refl; given = λ q. refl; seen = λ q. refl; heard = λ q. refl; census = refl }) refl (part_refl _) refl
     where
       kept : Heap
@@ -101,7 +101,7 @@ module _ (n i : ℕ) (w : World) (f : Firm n i (w.house i)) where
       (Turn.cleans (seen n w) (Cleans.word (seen n w).net i j (numbers (bytes_of refs)) f.inside (subst (λ (z : ℕ). j < z) f.houses (leb-false (rules.houses h) j a))
       (λ e. eqb-false j (rules.self h) b (sym e ∙ sym f.self))
       (λ o e t. subst (λ (xs : List ℕ). T (is_in o xs)) (sym same) (truth (all o e (⊎_elim (λ y. or_left (is_in o h.heap.roots) (is_in o (everywhere h.heap.objects)) (untruth y)) (λ y. or_right (is_in o h.heap.roots) (is_in o (everywhere h.heap.objects)) (untruth y)) t))))
-      (λ o t. ⊎_elim (λ y. inl (truth y)) (λ y. inr (truth y)) (or_cases (is_in o h.heap.roots) (is_in o (everywhere h.heap.objects)) (only o (subst (λ (xs : List ℕ). T (is_in o xs)) same t))))) tt) (λ _. tt)))
+      (λ o t. ⊎_elim (λ y. inl (truth y)) (λ y. inr (truth y)) (or_cases (is_in o h.heap.roots) (is_in o (everywhere h.heap.objects)) (only o (subst (λ (xs : List ℕ). T (is_in o xs)) same t))))) tt) free free (λ _. tt)))
     where
       refs : List ℕ
       refs = references_of j (w.house i).heap
@@ -124,7 +124,7 @@ module _ (n i : ℕ) (w : World) (f : Firm n i (w.house i)) where
 
   pub tracks_joined : (c : ℕ) → rules.census h < c → Tracks true n i w (sends [] (in_census c h))
   tracks_joined c lt r =
-      arrives n i w (in_census c h) true [] (joined_seen c) (Way.more Way.same (Turn.join (seen n w) i c f.inside lt) (λ _. tt))
+      arrives n i w (in_census c h) true [] (joined_seen c) (Way.more Way.same (Turn.join (seen n w) i c f.inside lt) free free (λ _. tt))
       (alike_by n i w (in_census c h) [] (joined_seen c) r (house_put w i (in_census c h) (net.in_census c (house_seen h)) (house_refl _)) (made_kept w i (in_census c h) refl) (part_put w i (in_census c h) promise.fresh (part_refl _))
       (cond (eqb i 0) rounds.idle (w.house 0).desk) (desk (eqb i 0)) (turned (eqb i 0) (eqb 0 i) (eqb_turned i 0)) (both_refl _) (both_refl _))
     where
@@ -147,7 +147,7 @@ module _ (n i : ℕ) (w : World) (f : Firm n i (w.house i)) where
       let here = eqb-true to (rules.self h) (not-false (eqb to (rules.self h)) a) ∙ f.self in
       subst (λ (st : Stamps). Tracks true n i w (sends [] (rules.with_stamps st (rules.with_list (heard_of from held s h.list) h)))) (sym stamps)
       (tracks_house true n i w new (net.heard from held s (house_seen h))
-      (Turn.cleans (seen n w) (Cleans.hear (seen n w).net from i held s f.inside (subst (λ (z : ℕ). Memᴰ (Word from z held s) (seen n w).net.sent) here sent)) tt) (λ _. tt)
+      (Turn.cleans (seen n w) (Cleans.hear (seen n w).net from i held s f.inside (subst (λ (z : ℕ). Memᴰ (Word from z held s) (seen n w).net.sent) here sent)) tt) free free (λ _. tt)
       (record {
         roots = λ q. refl;
         objects = objects_refl _;
@@ -173,4 +173,4 @@ module _ (n i : ℕ) (w : World) (f : Firm n i (w.house i)) where
       let own = eqb-true c (rules.census h) (not-false (eqb c (rules.census h)) a) in
       subst (λ (z : ℕ). Tracks true n i w (sends [] (rules.with_list (swept z h.list) h))) (sym own)
       (tracks_house true n i w (rules.with_list (swept (rules.census h) h.list) h) (with_list (swept (rules.census h) h.list) (house_seen h))
-      (Turn.cleans (seen n w) (Cleans.sweep (seen n w).net i f.inside (subst (λ (z : ℕ). Memᴰ (Sweep z) (seen n w).net.sent) own sent)) tt) (λ _. tt) (house_refl _) refl (part_refl _) refl))
+      (Turn.cleans (seen n w) (Cleans.sweep (seen n w).net i f.inside (subst (λ (z : ℕ). Memᴰ (Sweep z) (seen n w).net.sent) own sent)) tt) free free (λ _. tt) (house_refl _) refl (part_refl _) refl))

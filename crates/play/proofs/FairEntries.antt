@@ -1,13 +1,13 @@
 -- Lists of entries that are the collector's: the steps of the relation that they are, and that the same references matter after them.
 use Rattle.std.proofs.Common.{◌≡◌, ℕ, zero, suc, ◌<◌, ◌≤◌, Bool, true, List, [], ◌∷◌, ◌++◌, sym, refl, subst, arith}
+use Rattle.promise.specs.Rounds as promise
 use Rattle.play.specs.Play.{World, Entry, play, plays}
 use Rattle.play.specs.Seen.{seen}
 use Rattle.play.specs.Promise.{SameMatters}
 use Rattle.play.specs.Settle.{each}
 use Rattle.play.specs.Exact.{AllCleaning}
-use Rattle.play.proofs.Frame.{Way}
-use Rattle.play.proofs.Catching.{way_on}
-use Rattle.play.proofs.Tracking.{Kept, kept_play, way_play}
+use Rattle.play.proofs.Frame.{Deed, Way}
+use Rattle.play.proofs.Tracking.{Kept, kept_play, deed_of, way_play}
 use Rattle.play.proofs.Promise.{has_seen, has_back, way_nothing}
 
 pub plays_append : (n : ℕ) (es fs : List Entry) (w : World) → plays n (es ++ fs) w ≡ plays n fs (plays n es w)
@@ -22,10 +22,14 @@ pub cleanly_append : (n : ℕ) (es fs : List Entry) (w : World) → AllCleaning 
 cleanly_append n [] fs w c d = d
 cleanly_append n (e ∷ es) fs w c d = (c.0, cleanly_append n es fs (play n e w) c.1 d)
 
-pub way_plays : (n : ℕ) (es : List Entry) (w : World) → Kept n w → AllCleaning n es w → Way true n (seen n w) (seen n (plays n es w))
+way_on : {d : Deed} {cleaning : Bool} {n : ℕ} {a b c : promise.World} → Way Deed.any cleaning n a b → Way d cleaning n b c → Way Deed.any cleaning n a c
+way_on l Way.same = l
+way_on l (Way.more m t f s g) = Way.more (way_on l m) t (λ _. tt) (λ _. tt) g
+
+pub way_plays : (n : ℕ) (es : List Entry) (w : World) → Kept n w → AllCleaning n es w → Way Deed.any true n (seen n w) (seen n (plays n es w))
 way_plays n [] w k c = Way.same
 way_plays n (e ∷ es) w k c =
-    way_on (subst (λ (b : Bool). Way b n (seen n w) (seen n (play n e w))) c.0 (way_play n e w k)) (way_plays n es (play n e w) (kept_play n e w k) c.1)
+    way_on (way_on Way.same (subst (λ (b : Bool). Way (deed_of n e w) b n (seen n w) (seen n (play n e w))) c.0 (way_play n e w k))) (way_plays n es (play n e w) (kept_play n e w k) c.1)
 
 pub same_plays : (n : ℕ) (es : List Entry) (w : World) → Kept n w → AllCleaning n es w → SameMatters n w (plays n es w)
 same_plays n es w k c j o =

@@ -13,7 +13,7 @@ use Rattle.promise.proofs.Steps.{Good}
 use Rattle.promise.proofs.Nothing.{sent_more, alike_both}
 use Rattle.promise.proofs.Ends.{good_of}
 use Rattle.promise.proofs.Sound.{sounds}
-use Rattle.play.proofs.Frame.{Way}
+use Rattle.play.proofs.Frame.{Deed, Way}
 use Rattle.play.proofs.Tracking.{runs_on}
 use Rattle.play.proofs.FairSteps.{Told, Fairly, IsMark, told_with, fair_sends, fair_cleans}
 
@@ -48,9 +48,9 @@ told_turn (Turn.note w i b x a d e) c j k t = t
 told_turn (Turn.complete w e) c j k t = t
 told_turn (Turn.alike w v a) c j k t = told_alike a.net j k t
 
-pub told_way : {n : ℕ} {w v : World} → Way true n w v → (j k : ℕ) → Told w.net j k → Told v.net j k
+pub told_way : {d : Deed} {n : ℕ} {w v : World} → Way d true n w v → (j k : ℕ) → Told w.net j k → Told v.net j k
 told_way Way.same j k t = t
-told_way (Way.more l u g) j k t = told_turn u (g refl) j k (told_way l j k t)
+told_way (Way.more l u _ _ g) j k t = told_turn u (g refl) j k (told_way l j k t)
 
 -- a fair census
 fair_alike : {houses c : ℕ} {n m : Net} → AlikeNet n m → Fairly houses c n → Fairly houses c m
@@ -74,9 +74,9 @@ fair_turn r (Turn.note w i b t a d e) x f = f
 fair_turn r (Turn.complete w e) x f = fair_sends w.net f (Sweep (census_of w 0)) (sent_more w.net (Sweep (census_of w 0)) tt) (λ d o i _ q. absurd (subst IsMark q tt))
 fair_turn r (Turn.alike w v a) x f = fair_alike a.net f
 
-pub fair_way : {n c : ℕ} {w v : World} → Runs n w → Way true n w v → Fairly n c w.net → Fairly n c v.net
+pub fair_way : {d : Deed} {n c : ℕ} {w v : World} → Runs n w → Way d true n w v → Fairly n c w.net → Fairly n c v.net
 fair_way r Way.same f = f
-fair_way r (Way.more l t g) f = fair_turn (runs_on r l) t (g refl) (fair_way r l f)
+fair_way r (Way.more l t _ _ g) f = fair_turn (runs_on r l) t (g refl) (fair_way r l f)
 
 -- a census above all has no line and no telling yet, so it is fair when all have heard each other
 pub fair_first : {n : ℕ} {w : World} (c : ℕ) → Runs n w → ((j k : ℕ) → j < n → k < n → (j ≡ k → ⊥) → Told w.net j k) → ((i : ℕ) → i < n → census_of w i < c) → Fairly n c w.net

@@ -10,9 +10,10 @@ use Rattle.promise.specs.House.{House}
 use Rattle.promise.specs.Net.{Msg, with}
 use Rattle.promise.specs.Net as net
 use Rattle.promise.specs.Alike.{AlikeObjects, AlikeHouse}
-use Rattle.promise.specs.Rounds.{Part, Desk, Turn, AlikePart, Alike}
+use Rattle.promise.specs.Rounds.{Part, Desk, Turn, AlikePart, Alike, begins}
 use Rattle.promise.specs.Rounds as promise
 use Rattle.promise.specs.Promise.{Collects}
+use Rattle.promise.proofs.Called.{tells}
 use Rattle.play.specs.Play.{World, put, bytes_of, written}
 use Rattle.play.specs.Seen.{house_seen, part_seen, desk_seen, msg_of, note_of, seen}
 use Rattle.play.proofs.Sending.{ReadableSaid, Readable, Both, both_refl, msgs_of, notes_of, msgs_sent, notes_sent}
@@ -61,23 +62,47 @@ module _ (w : World) (i : ℕ) (h : rules.House) where
 abbrev pub moved : ℕ → rules.House → List (List ℕ) → World → World
 moved i h bss w = record { house = put i h w.house; sent = w.sent ++ bss }
 
--- steps of the relation, one after the other; all the collector's, if that is wanted
-pub data Way (cleaning : Bool) (n : ℕ) : promise.World → promise.World → Type 0 where
-  same : {w : promise.World} → Way cleaning n w w
-  more : {w v u : promise.World} → Way cleaning n w v → (t : Turn n v u) → (cleaning ≡ true → Collects t) → Way cleaning n w u
+-- what some steps do with the rounds: leave them alone, begin one as the very first of the steps, tell that two agree, or any of it
+pub data Deed : Type 0 where
+  leaves : Deed
+  opens : Deed
+  closes : Deed
+  any : Deed
 
--- a step that need not be the collector's
+-- a step may begin a round, if it is the first
+abbrev pub MayBegin : Deed → Type 0 → Type 0
+MayBegin Deed.leaves first = ⊥
+MayBegin Deed.opens first = first
+MayBegin Deed.closes first = ⊥
+MayBegin Deed.any first = Unit {0}
+
+abbrev pub MayTell : Deed → Type 0
+MayTell Deed.leaves = ⊥
+MayTell Deed.opens = ⊥
+MayTell Deed.closes = Unit {0}
+MayTell Deed.any = Unit {0}
+
+-- steps of the relation, one after the other, that do this with the rounds; all the collector's, if that is wanted
+pub data Way (deed : Deed) (cleaning : Bool) (n : ℕ) : promise.World → promise.World → Type 0 where
+  same : {w : promise.World} → Way deed cleaning n w w
+  more : {w v u : promise.World} → Way deed cleaning n w v → (t : Turn n v u) → (begins t ≡ true → MayBegin deed (w ≡ v)) → (tells t ≡ true → MayTell deed) → (cleaning ≡ true → Collects t) → Way deed cleaning n w u
+
+-- what is asked of another kind of step
 pub free : {A : Type 0} → false ≡ true → A
 free e = absurd (false≢true e)
 
 -- the steps of the relation lead to what the outcome makes of the world
+abbrev pub TracksBy : Deed → Bool → ℕ → ℕ → World → Outcome → Type 0
+TracksBy d b n i w x = ReadableSaid n x.answer → Way d b n (seen n w) (seen n (moved i x.house (written x.answer) w))
+
+-- and leave the rounds to themselves
 abbrev pub Tracks : Bool → ℕ → ℕ → World → Outcome → Type 0
-Tracks b n i w x = ReadableSaid n x.answer → Way b n (seen n w) (seen n (moved i x.house (written x.answer) w))
+Tracks b n i w x = TracksBy Deed.leaves b n i w x
 
 module _ (n i : ℕ) (w : World) (h : rules.House) where
   -- a step that leads to something alike
-  pub arrives : (b : Bool) (ls : List Letter) (v : promise.World) → Way b n (seen n w) v → Alike v (seen n (moved i h (map bytes_of ls) w)) → Way b n (seen n w) (seen n (moved i h (map bytes_of ls) w))
-  arrives b ls v l a = Way.more l (Turn.alike v _ a) (λ _. tt)
+  pub arrives : {d : Deed} (b : Bool) (ls : List Letter) (v : promise.World) → Way d b n (seen n w) v → Alike v (seen n (moved i h (map bytes_of ls) w)) → Way d b n (seen n w) (seen n (moved i h (map bytes_of ls) w))
+  arrives b ls v l a = Way.more l (Turn.alike v _ a) free free (λ _. tt)
 
   -- the pieces of such a likeness: houses, names made, parts, rounds, and what was sent and said
   pub alike_by : (ls : List Letter) (v : promise.World) → Readable n ls →
@@ -97,27 +122,28 @@ module _ (n i : ℕ) (w : World) (h : rules.House) where
       f : v.desk ≡ desk_seen (put i h w.house 0).desk
       f = e ∙ ap desk_seen ed
 
-module _ (b : Bool) (n i : ℕ) (w : World) where
-  pub tracks_refused : (e : Refusal) → Tracks b n i w (refused e (w.house i))
+module _ {d : Deed} (b : Bool) (n i : ℕ) (w : World) where
+  pub tracks_refused : (e : Refusal) → TracksBy d b n i w (refused e (w.house i))
   tracks_refused e r =
       arrives n i w (w.house i) b [] (seen n w) Way.same
       (alike_by n i w (w.house i) [] (seen n w) (λ l m. absurd (mathlib.Core.List.Memᴰ.not-nil m)) (house_kept w i (w.house i) (house_refl _)) (made_kept w i (w.house i) refl) (part_kept w i (w.house i) (part_refl _)) (w.house 0).desk refl (desk_kept w i (w.house i) refl) (both_refl _) (both_refl _))
 
-  pub tracks_unless : (t : Bool) (e : Refusal) (x : Outcome) → (t ≡ false → Tracks b n i w x) → Tracks b n i w (refuse_if t e (w.house i) x)
+  pub tracks_unless : (t : Bool) (e : Refusal) (x : Outcome) → (t ≡ false → TracksBy d b n i w x) → TracksBy d b n i w (refuse_if t e (w.house i) x)
   tracks_unless true e x f = tracks_refused e
   tracks_unless false e x f = f refl
 
+module _ (b : Bool) (n i : ℕ) (w : World) where
   -- one step that changes house i and sends nothing
-  pub tracks_house : (h : rules.House) (g : House) (t : Turn n (seen n w) (record { net = with i g (seen n w).net; part = (seen n w).part; desk = (seen n w).desk; said = (seen n w).said })) → (b ≡ true → Collects t) →
+  pub tracks_house : (h : rules.House) (g : House) (t : Turn n (seen n w) (record { net = with i g (seen n w).net; part = (seen n w).part; desk = (seen n w).desk; said = (seen n w).said })) → (begins t ≡ true → ⊥) → (tells t ≡ true → ⊥) → (b ≡ true → Collects t) →
       AlikeHouse g (house_seen h) → (w.house i).heap.made ≡ h.heap.made → AlikePart (part_seen (w.house i).part) (part_seen h.part) → (w.house i).desk ≡ h.desk → Tracks b n i w (sends [] h)
-  tracks_house h g t c a em p ed r =
-      arrives n i w h b [] _ (Way.more Way.same t c)
+  tracks_house h g t f s c a em p ed r =
+      arrives n i w h b [] _ (Way.more Way.same t f s c)
       (alike_by n i w h [] (record { net = with i g (seen n w).net; part = (seen n w).part; desk = (seen n w).desk; said = (seen n w).said }) r (house_put w i h g a) (made_kept w i h em) (part_kept w i h p) (w.house 0).desk refl (desk_kept w i h ed) (both_refl _) (both_refl _))
 
   -- what the objects answered
   pub tracks_heap : {X : Type 0} (r : Result X Refusal) (new : Heap) → (is_ok r ≡ true → Tracks b n i w (sends [] (rules.with_heap new (w.house i)))) → Tracks b n i w (quietly r (cond (is_ok r) new (w.house i).heap) (w.house i))
   tracks_heap (Ok x) new f = f refl
-  tracks_heap (Err e) new f = tracks_refused e
+  tracks_heap (Err e) new f = tracks_refused b n i w e
 
 -- an answer that is no refusal passed the test
 pub passed : {X : Type 0} (b : Bool) (e : Refusal) (r : Result X Refusal) → is_ok (cond b (Err e) r) ≡ true → (b ≡ false) × (is_ok r ≡ true)
@@ -134,7 +160,7 @@ both_none front xs e = subst (λ (ys : List _). Both xs ((ys ++ []) ++ xs)) (sym
 module _ (b : Bool) (n i : ℕ) (w : World) where
   -- one step that sends one message, with the house as it is
   pub tracks_send : (l : Letter) (m : Msg) → msg_of l.0 l.1 ≡ m ∷ [] → note_of l.0 ≡ [] →
-      (t : Turn n (seen n w) (record { net = net.sends m (seen n w).net; part = (seen n w).part; desk = (seen n w).desk; said = (seen n w).said })) → (b ≡ true → Collects t) → Tracks b n i w (sends (l ∷ []) (w.house i))
-  tracks_send l m em en t c r =
-      arrives n i w (w.house i) b (l ∷ []) _ (Way.more Way.same t c)
+      (t : Turn n (seen n w) (record { net = net.sends m (seen n w).net; part = (seen n w).part; desk = (seen n w).desk; said = (seen n w).said })) → (begins t ≡ true → ⊥) → (tells t ≡ true → ⊥) → (b ≡ true → Collects t) → Tracks b n i w (sends (l ∷ []) (w.house i))
+  tracks_send l m em en t f s c r =
+      arrives n i w (w.house i) b (l ∷ []) _ (Way.more Way.same t f s c)
       (alike_by n i w (w.house i) (l ∷ []) (record { net = net.sends m (seen n w).net; part = (seen n w).part; desk = (seen n w).desk; said = (seen n w).said }) r (house_kept w i (w.house i) (house_refl _)) (made_kept w i (w.house i) refl) (part_kept w i (w.house i) (part_refl _)) (w.house 0).desk refl (desk_kept w i (w.house i) refl) (both_one m (msg_of l.0 l.1) (seen n w).net.sent em) (both_none (note_of l.0) (seen n w).said en))

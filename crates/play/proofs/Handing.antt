@@ -63,7 +63,7 @@ module _ (n k : ℕ) (w : World) (f : Firm n k (w.house k)) where
   tracks_home o by j at_home asked there may ej =
       tracks_heap false n k w (keep_answer o h.heap) (rooted o h.heap)
       (λ ok. tracks_house false n k w (rules.with_heap (rooted o h.heap) h) (net.rooted o (house_seen h))
-      (Turn.uses (seen n w) (Uses.give_home (seen n w).net k o by f.inside at_home (subst (λ (z : ℕ). Memᴰ (Ask o by z) (seen n w).net.sent) ej asked) there (entitled o by may))) (λ e. free e)
+      (Turn.uses (seen n w) (Uses.give_home (seen n w).net k o by f.inside at_home (subst (λ (z : ℕ). Memᴰ (Ask o by z) (seen n w).net.sent) ej asked) there (entitled o by may))) free free free
       (roots_alike h (rules.with_heap (rooted o h.heap) h) (o ∷ h.heap.roots) (same_added o h.heap.roots) refl refl refl refl) refl (part_refl _) refl)
 
   -- to another house
@@ -71,7 +71,7 @@ module _ (n k : ℕ) (w : World) (f : Firm n k (w.house k)) where
   tracks_stamped o by j at_home asked there may away (Err e) er = tracks_refused false n k w e
   tracks_stamped o by j at_home asked there may away (Ok s) er =
       tracks_unless false n k w (not (belongs (rules.self h) (rules.houses h) o j)) Malformed _
-      (λ _ r. arrives n k w new false (l ∷ []) _ (Way.more Way.same (Turn.uses (seen n w) (Uses.give (seen n w).net k o by j f.inside at_home asked there (entitled o by may) away)) (λ e. free e))
+      (λ _ r. arrives n k w new false (l ∷ []) _ (Way.more Way.same (Turn.uses (seen n w) (Uses.give (seen n w).net k o by j f.inside at_home asked there (entitled o by may) away)) free free free)
       (alike_by n k w new (l ∷ [])
       (record { net = net.sends (Give o j (given_to h.stamps j + 1)) (with k (gave o j (house_seen h)) (seen n w).net); part = (seen n w).part; desk = (seen n w).desk; said = (seen n w).said }) r
       (house_put w k new (gave o j (house_seen h)) alike) (made_kept w k new refl) (part_kept w k new (part_refl _)) (w.house 0).desk refl (desk_kept w k new refl)
@@ -114,7 +114,7 @@ module _ (n j : ℕ) (w : World) (f : Firm n j (w.house j)) where
   tracks_took : (o s : ℕ) → Memᴰ (Give o j s) (seen n w).net.sent → seen_from (w.house j).stamps (home o) < s → (r : Result (Unit {0}) Refusal) → take_answer o (w.house j).heap ≡ r → Tracks false n j w (took_it r o s (w.house j))
   tracks_took o s given lt (Err e) er r = tracks_refused false n j w e r
   tracks_took o s given lt (Ok u) er r =
-      arrives n j w new false [] _ (Way.more Way.same (Turn.uses (seen n w) (Uses.take (seen n w).net j o s f.inside given lt)) (λ e. free e))
+      arrives n j w new false [] _ (Way.more Way.same (Turn.uses (seen n w) (Uses.take (seen n w).net j o s f.inside given lt)) free free free)
       (alike_by n j w new []
       (record { net = with j (took o s (house_seen (w.house j))) (seen n w).net; part = promise.set j (promise.stirring (part_seen (w.house j).part)) (seen n w).part; desk = (seen n w).desk; said = (seen n w).said }) r
       (house_put w j new (took o s (house_seen (w.house j))) alike) (made_kept w j new made) (part_put w j new (promise.stirring (part_seen (w.house j).part)) (part_refl _)) (w.house 0).desk refl (desk_kept w j new refl) (both_refl _) (both_refl _))

@@ -11,6 +11,7 @@ pub mod Answering
 pub mod Rounding
 pub mod Telling
 pub mod Tracking
+pub mod History
 pub mod Promise
 pub mod FairEntries
 pub mod FairAnswers

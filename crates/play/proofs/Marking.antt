@@ -23,7 +23,7 @@ use Rattle.play.specs.Play.{World}
 use Rattle.play.specs.Seen.{house_seen, part_seen, answered_names, seen, msgs_seen, notes_seen}
 use Rattle.play.proofs.Sending.{both_refl}
 use Rattle.play.proofs.Firm.{Firm}
-use Rattle.play.proofs.Frame.{Way, Tracks, tracks_unless, arrives, alike_by, house_put, house_kept, house_refl, part_put, part_refl, made_kept, desk_kept, both_one}
+use Rattle.play.proofs.Frame.{Way, free, Tracks, tracks_unless, arrives, alike_by, house_put, house_kept, house_refl, part_put, part_refl, made_kept, desk_kept, both_one}
 use Rattle.play.proofs.Programs.{truth}
 use Rattle.play.proofs.Cleaning.{untruth}
 use Rattle.play.proofs.Catching.{tracks_caught}
@@ -63,7 +63,7 @@ module _ (n i : ℕ) (w : World) (f : Firm n i (w.house i)) where
   tracks_marks : (c o from : ℕ) → rules.census h ≡ c → home o ≡ i → Memᴰ (Mark c o from) (seen n w).net.sent → Tracks true n i w (sends (letter (message.Answer (record { 0 = c }) (name o) (house from)) ∷ []) (marks c o from h))
   tracks_marks c o from own at_home sent =
       subst (λ (z : ℕ). Tracks true n i w (sends (letter (message.Answer (record { 0 = z }) (name o) (house from)) ∷ []) (marks z o from h))) own
-      (λ r. arrives n i w new true (l ∷ []) _ (Way.more Way.same (Turn.mark (seen n w) i o from f.inside at_home (subst (λ (z : ℕ). Memᴰ (Mark z o from) (seen n w).net.sent) (sym own) sent)) (λ _. tt))
+      (λ r. arrives n i w new true (l ∷ []) _ (Way.more Way.same (Turn.mark (seen n w) i o from f.inside at_home (subst (λ (z : ℕ). Memᴰ (Mark z o from) (seen n w).net.sent) (sym own) sent)) free free (λ _. tt))
       (alike_by n i w new (l ∷ [])
       (record { net = with i (with_list (marked (rules.census h) o from h.list) (house_seen h)) (seen n w).net; part = promise.set i (promise.counting b (part_seen h.part)) (seen n w).part; desk = (seen n w).desk; said = Answer (rules.census h) o from ∷ (seen n w).said }) r
       (house_put w i new (with_list (marked (rules.census h) o from h.list) (house_seen h)) (house_refl _)) (made_kept w i new refl) (part_put w i new (promise.counting b (part_seen h.part)) (part_counted h.part b f.tally))
@@ -126,7 +126,7 @@ module _ (n i : ℕ) (w : World) (f : Firm n i (w.house i)) where
         where
           turn : Tracks true n i w (sends (letter l ∷ []) new)
           turn q =
-              arrives n i w new true (letter l ∷ []) _ (Way.more Way.same (Turn.reply (seen n w) i r b f.inside (subst (λ (z : ℕ). Memᴰ (Round z r) (seen n w).said) (sym own) asked) (says_fine r).0 falsely) (λ _. tt))
+              arrives n i w new true (letter l ∷ []) _ (Way.more Way.same (Turn.reply (seen n w) i r b f.inside (subst (λ (z : ℕ). Memᴰ (Round z r) (seen n w).said) (sym own) asked) (says_fine r).0 falsely) free free (λ _. tt))
               (alike_by n i w new (letter l ∷ [])
               (record { net = (seen n w).net; part = promise.set i (promise.polling r (part_seen (w.house i).part)) (seen n w).part; desk = (seen n w).desk; said = Reply (rules.census (w.house i)) r i b (w.house i).part.tally ∷ (seen n w).said }) q
               (house_kept w i new (house_refl _)) (made_kept w i new refl) (part_put w i new (promise.polling r (part_seen (w.house i).part)) (part_refl _)) (w.house 0).desk refl (desk_kept w i new refl) (both_refl _)

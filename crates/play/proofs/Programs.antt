@@ -67,7 +67,7 @@ module _ (n i : ℕ) (w : World) (f : Firm n i (w.house i)) where
       let q = and_parts (held o h.heap) (is_in p h.heap.roots) (not-false (held o h.heap && is_in p h.heap.roots) b.0) in
       let o-here = held_here o q.0 in
       tracks_house false n i w (rules.with_heap (linked_to o p h.heap) h) (with_objects (changed o (p ∷ fields_of o h.heap.objects) h.heap.objects) (house_seen h))
-      (Turn.uses (seen n w) (Uses.link (seen n w).net i o p f.inside o-here.0 o-here.1 (truth q.1))) (λ e. free e)
+      (Turn.uses (seen n w) (Uses.link (seen n w).net i o p f.inside o-here.0 o-here.1 (truth q.1))) free free free
       (objects_alike h (rules.with_heap (linked_to o p h.heap) h) _ (alike_changed o (p ∷ fields_of o h.heap.objects) (fields_of o h.heap.objects ++ p ∷ []) h.heap.objects (same_last p (fields_of o h.heap.objects))) refl refl refl refl) refl (part_refl _) refl)
 
   pub tracks_unlink : (o p : ℕ) → Tracks false n i w (step h (unlink o p))
@@ -78,7 +78,7 @@ module _ (n i : ℕ) (w : World) (f : Firm n i (w.house i)) where
       let b = passed (not (held o h.heap)) NotRoot _ a.1 in
       let o-here = held_here o (not-false (held o h.heap) b.0) in
       tracks_house false n i w (rules.with_heap (unlinked_from o p h.heap) h) (with_objects (changed o (without_first p (fields_of o h.heap.objects)) h.heap.objects) (house_seen h))
-      (Turn.uses (seen n w) (Uses.unlink (seen n w).net i o p f.inside o-here.0 o-here.1)) (λ e. free e)
+      (Turn.uses (seen n w) (Uses.unlink (seen n w).net i o p f.inside o-here.0 o-here.1)) free free free
       (objects_alike h (rules.with_heap (unlinked_from o p h.heap) h) _ (objects_refl _) refl refl refl refl) refl (part_refl _) refl)
 
   pub tracks_load : (o p : ℕ) → Tracks false n i w (step h (load o p))
@@ -90,14 +90,14 @@ module _ (n i : ℕ) (w : World) (f : Firm n i (w.house i)) where
       let d = passed (not (is_in p (fields_of o h.heap.objects))) NoField _ b.1 in
       let o-here = held_here o (not-false (held o h.heap) b.0) in
       tracks_house false n i w (rules.with_heap (objects.rooted p h.heap) h) (rooted p (house_seen h))
-      (Turn.uses (seen n w) (Uses.load (seen n w).net i o p f.inside o-here.0 o-here.1 (truth (not-false (is_in p (fields_of o h.heap.objects)) d.0)))) (λ e. free e)
+      (Turn.uses (seen n w) (Uses.load (seen n w).net i o p f.inside o-here.0 o-here.1 (truth (not-false (is_in p (fields_of o h.heap.objects)) d.0)))) free free free
       (roots_alike h (rules.with_heap (objects.rooted p h.heap) h) (p ∷ h.heap.roots) (same_added p h.heap.roots) refl refl refl refl) refl (part_refl _) refl)
 
   pub tracks_drop : (o : ℕ) → Tracks false n i w (step h (drop o))
   tracks_drop o =
       tracks_heap false n i w (drop_answer o h.heap) (unrooted o h.heap)
       (λ ok.
-      tracks_house false n i w (rules.with_heap (unrooted o h.heap) h) (net.unrooted o (house_seen h)) (Turn.uses (seen n w) (Uses.drop (seen n w).net i o f.inside)) (λ e. free e)
+      tracks_house false n i w (rules.with_heap (unrooted o h.heap) h) (net.unrooted o (house_seen h)) (Turn.uses (seen n w) (Uses.drop (seen n w).net i o f.inside)) free free free
       (roots_alike h (rules.with_heap (unrooted o h.heap) h) (without o h.heap.roots) (λ q. refl) refl refl refl refl) refl (part_refl _) refl)
 
   pub tracks_make : (k : ℕ) → Tracks false n i w (step h (make k))
@@ -108,7 +108,7 @@ module _ (n i : ℕ) (w : World) (f : Firm n i (w.house i)) where
       let b = passed (not (ltb (length h.heap.objects) 1024 && roomy h.heap)) NoRoom _ a.1 in
       let d = passed (leb k h.heap.made || ltb 4294967295 (k * 16 + h.heap.home)) OutOfNumbers _ b.1 in
       let more = leb-false k h.heap.made (or_parts (leb k h.heap.made) (ltb 4294967295 (k * 16 + h.heap.home)) d.0).0 in
-      arrives n i w new false [] _ (Way.more Way.same (Turn.uses (seen n w) (Uses.make (seen n w).net i k f.inside (small f.inside f.few) more)) (λ e. free e))
+      arrives n i w new false [] _ (Way.more Way.same (Turn.uses (seen n w) (Uses.make (seen n w).net i k f.inside (small f.inside f.few) more)) free free free)
       (alike_by n i w new []
       (record { net = record { house = net.put i (net.made (k * 16 + i) (house_seen h)) (seen n w).net.house; sent = (seen n w).net.sent; made = at i k (seen n w).net.made }; part = (seen n w).part; desk = (seen n w).desk; said = (seen n w).said }) r
       (house_put w i new (net.made (k * 16 + i) (house_seen h)) (alike more)) (made_put w i new k refl) (part_kept w i new (part_refl _)) (w.house 0).desk refl (desk_kept w i new refl) (both_refl _) (both_refl _)))
@@ -143,4 +143,4 @@ module _ (n i : ℕ) (w : World) (f : Firm n i (w.house i)) where
       tracks_unless false n i w (malformed o h.heap || leb (rules.houses h) j) Malformed _
       (λ a. tracks_unless false n i w (not (is_in o h.heap.roots)) NotRoot _
       (λ b. tracks_send false n i w (letter (message.Ask (name o) (house (rules.self h)) (house j))) (Ask o i j) (ap (λ (z : ℕ). Ask o z j ∷ []) f.self) refl
-      (Turn.uses (seen n w) (Uses.ask (seen n w).net i o j f.inside (subst (λ (z : ℕ). j < z) f.houses (leb-false (rules.houses h) j (or_parts (malformed o h.heap) (leb (rules.houses h) j) a).1)) (truth (not-false (is_in o h.heap.roots) b)))) (λ e. free e)))
+      (Turn.uses (seen n w) (Uses.ask (seen n w).net i o j f.inside (subst (λ (z : ℕ). j < z) f.houses (leb-false (rules.houses h) j (or_parts (malformed o h.heap) (leb (rules.houses h) j) a).1)) (truth (not-false (is_in o h.heap.roots) b)))) free free free))

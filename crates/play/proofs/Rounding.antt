@@ -21,7 +21,7 @@ use Rattle.play.specs.Play.{World}
 use Rattle.play.specs.Seen.{desk_seen, slot_seen, seen}
 use Rattle.play.proofs.Sending.{Both, both_refl}
 use Rattle.play.proofs.Firm.{Firm}
-use Rattle.play.proofs.Frame.{Way, Tracks, tracks_refused, tracks_unless, arrives, alike_by, house_kept, house_refl, part_kept, part_refl, made_kept, desk_kept, both_one}
+use Rattle.play.proofs.Frame.{Deed, Way, free, Tracks, TracksBy, tracks_refused, tracks_unless, arrives, alike_by, house_kept, house_refl, part_kept, part_refl, made_kept, desk_kept, both_one}
 use Rattle.play.proofs.Cleaning.{unanswered_seen}
 
 -- by cases on the last house
@@ -67,6 +67,16 @@ all_agreed (suc n) xs ys e i lt =
 both_again : {A : Type 0} (x : A) (front xs : List A) → front ≡ x ∷ [] → Memᴰ x xs → Both xs ((front ++ []) ++ xs)
 both_again x front xs e m = subst (λ (ys : List _). Both xs ((ys ++ []) ++ xs)) (sym e) (λ y. (λ z. Memᴰ.tail z, λ z. ⊎_elim (λ q. subst (λ v. Memᴰ v xs) (sym q) m) (λ q. q) (Memᴰ.cases_cons z)))
 
+-- the call round begins one, if it may, at the house that asks
+abbrev pub round_at : ℕ → rules.House → Deed
+round_at zero h = cond (ready (rules.houses h) h.desk && ltb h.desk.round 4294967295) Deed.opens Deed.leaves
+round_at (suc i) h = Deed.leaves
+
+-- an answer to a round may be the last one, at the house that asks
+abbrev pub reply_at : ℕ → Deed
+reply_at zero = Deed.closes
+reply_at (suc i) = Deed.leaves
+
 module _ (n : ℕ) (w : World) (f : Firm n 0 (w.house 0)) where
   abbrev h : rules.House
   h = w.house 0
@@ -78,10 +88,10 @@ module _ (n : ℕ) (w : World) (f : Firm n 0 (w.house 0)) where
   round_letter r = letter (message.Round (record { 0 = rules.census (w.house 0) }) (record { 0 = r }))
 
   -- the next round
-  tracks_next : ready n (w.house 0).desk ≡ true → Tracks true n 0 w (sends (round_letter ((w.house 0).desk.round + 1) ∷ []) (rules.with_desk (next (w.house 0).desk) (w.house 0)))
+  tracks_next : ready n (w.house 0).desk ≡ true → TracksBy Deed.opens true n 0 w (sends (round_letter ((w.house 0).desk.round + 1) ∷ []) (rules.with_desk (next (w.house 0).desk) (w.house 0)))
   unfolding round_letter
   tracks_next e r =
-      arrives n 0 w new true (round_letter (d.round + 1) ∷ []) _ (Way.more Way.same (Turn.begin (seen n w) f.inside may) (λ _. tt))
+      arrives n 0 w new true (round_letter (d.round + 1) ∷ []) _ (Way.more Way.same (Turn.begin (seen n w) f.inside may) (λ _. refl) free (λ _. tt))
       (alike_by n 0 w new (round_letter (d.round + 1) ∷ [])
       (record { net = (seen n w).net; part = (seen n w).part; desk = record { round = suc d.round; now = λ i. promise.none; before = (seen n w).desk.now }; said = Round (rules.census h) (suc d.round) ∷ (seen n w).said }) r
       (house_kept w 0 new (house_refl _)) (made_kept w 0 new refl) (part_kept w 0 new (part_refl _)) (next d) desk refl (both_refl _)
@@ -118,7 +128,7 @@ module _ (n : ℕ) (w : World) (f : Firm n 0 (w.house 0)) where
           let z = some (w.house 0).desk.round (or_parts (eqb (w.house 0).desk.round 0) (all_spoke n (w.house 0).desk.now) e).0 in
           subst (λ (k : ℕ). Memᴰ (Round (rules.census (w.house 0)) k) (seen n w).said) (sym z.1) (asked_of runs z.0 z.1)
 
-  tracks_begins : Runs n (seen n w) → Tracks true n 0 w (begins (beginning (rules.houses (w.house 0)) (w.house 0).desk) (w.house 0))
+  tracks_begins : Runs n (seen n w) → TracksBy (round_at 0 (w.house 0)) true n 0 w (begins (beginning (rules.houses (w.house 0)) (w.house 0).desk) (w.house 0))
   unfolding round_letter
   tracks_begins runs = go (ready (rules.houses h) d) (ltb d.round 4294967295) refl refl
     where
@@ -126,9 +136,9 @@ module _ (n : ℕ) (w : World) (f : Firm n 0 (w.house 0)) where
       same = ap (λ (k : ℕ). ready k (w.house 0).desk) f.houses
 
       go : (a b : Bool) → ready (rules.houses (w.house 0)) (w.house 0).desk ≡ a → ltb (w.house 0).desk.round 4294967295 ≡ b →
-          Tracks true n 0 w (begins (cond a (cond b (Ok ((w.house 0).desk.round + 1)) (Err OutOfNumbers)) (Ok (w.house 0).desk.round)) (w.house 0))
+          TracksBy (cond (a && b) Deed.opens Deed.leaves) true n 0 w (begins (cond a (cond b (Ok ((w.house 0).desk.round + 1)) (Err OutOfNumbers)) (Ok (w.house 0).desk.round)) (w.house 0))
       go true true ea eb =
-          subst (λ (x : rounds.Desk). Tracks true n 0 w (sends (round_letter ((w.house 0).desk.round + 1) ∷ []) (rules.with_desk x (w.house 0))))
+          subst (λ (x : rounds.Desk). TracksBy Deed.opens true n 0 w (sends (round_letter ((w.house 0).desk.round + 1) ∷ []) (rules.with_desk x (w.house 0))))
           (sym (cond-true (ready (rules.houses (w.house 0)) (w.house 0).desk && ltb (w.house 0).desk.round 4294967295) (next (w.house 0).desk) (w.house 0).desk (and_from _ _ ea eb))) (tracks_next (sym same ∙ ea))
       go true false ea eb = tracks_refused true n 0 w OutOfNumbers
       go false b ea eb =
@@ -171,10 +181,10 @@ module _ (n : ℕ) (w : World) (f : Firm n 0 (w.house 0)) where
     desks : note_seen.desk ≡ desk_seen kept
     desks = ap (λ (g : ℕ → promise.Slot). record { round = (w.house 0).desk.round; now = g; before = (seen n w).desk.before }) (fun_ext slots)
 
-    tracks_kept : Tracks true n 0 w (sends [] new)
+    tracks_kept : TracksBy Deed.closes true n 0 w (sends [] new)
     unfolding noted_turn
     tracks_kept q =
-        arrives n 0 w new true [] note_seen (Way.more Way.same noted_turn (λ _. tt))
+        arrives n 0 w new true [] note_seen (Way.more Way.same noted_turn free free (λ _. tt))
         (alike_by n 0 w new [] note_seen q (house_kept w 0 new (house_refl _)) (made_kept w 0 new refl) (part_kept w 0 new (part_refl _)) kept desks refl (both_refl _) (both_refl _))
 
     ended : agreed n kept ≡ true → Ended n note_seen.desk
@@ -186,34 +196,34 @@ module _ (n : ℕ) (w : World) (f : Firm n 0 (w.house 0)) where
           same = λ i lt. let z = all_agreed n kept.now kept.before a.1 i lt in (z.0, slots i ∙ z.1, z.2);
         }
 
-    tracks_completes : agreed n kept ≡ true → Tracks true n 0 w (sends (letter (message.Complete (record { 0 = rules.census (w.house 0) })) ∷ []) new)
+    tracks_completes : agreed n kept ≡ true → TracksBy Deed.closes true n 0 w (sends (letter (message.Complete (record { 0 = rules.census (w.house 0) })) ∷ []) new)
     unfolding noted_turn
     tracks_completes e q =
-        arrives n 0 w new true (letter (message.Complete (record { 0 = rules.census (w.house 0) })) ∷ []) _ (Way.more (Way.more Way.same noted_turn (λ _. tt)) (Turn.complete note_seen (ended e)) (λ _. tt))
+        arrives n 0 w new true (letter (message.Complete (record { 0 = rules.census (w.house 0) })) ∷ []) _ (Way.more (Way.more Way.same noted_turn free free (λ _. tt)) (Turn.complete note_seen (ended e)) free (λ _. tt) (λ _. tt))
         (alike_by n 0 w new (letter (message.Complete (record { 0 = rules.census (w.house 0) })) ∷ [])
         (record { net = net.sends (Sweep (rules.census (w.house 0))) (seen n w).net; part = (seen n w).part; desk = note_seen.desk; said = (seen n w).said }) q
         (house_kept w 0 new (house_refl _)) (made_kept w 0 new refl) (part_kept w 0 new (part_refl _)) kept desks refl (both_refl _) (both_refl _))
 
   tracks_notes : (r from : ℕ) (calm : Bool) (t : ℕ) → from < n → Memᴰ (Reply (rules.census (w.house 0)) r from calm t) (seen n w).said → (a b : Bool) → notes r from d ≡ a → agreed (rules.houses h) (noted r from calm t d) ≡ b →
-      Tracks true n 0 w (sends (cond (a && b) (letter (message.Complete (record { 0 = rules.census h })) ∷ []) []) (rules.with_desk (noted r from calm t d) h))
+      TracksBy Deed.closes true n 0 w (sends (cond (a && b) (letter (message.Complete (record { 0 = rules.census h })) ∷ []) []) (rules.with_desk (noted r from calm t d) h))
   tracks_notes r from calm t low heard true b ea eb =
-      subst (λ (x : rounds.Desk). agreed (rules.houses h) x ≡ b → Tracks true n 0 w (sends (cond b (letter (message.Complete (record { 0 = rules.census h })) ∷ []) []) (rules.with_desk x h)))
+      subst (λ (x : rounds.Desk). agreed (rules.houses h) x ≡ b → TracksBy Deed.closes true n 0 w (sends (cond b (letter (message.Complete (record { 0 = rules.census h })) ∷ []) []) (rules.with_desk x h)))
       (sym (cond-true (notes r from d) (kept r from calm t low heard ea) d ea)) (go b) eb
     where
-      go : (b : Bool) → agreed (rules.houses (w.house 0)) (kept r from calm t low heard ea) ≡ b → Tracks true n 0 w (sends (cond b (letter (message.Complete (record { 0 = rules.census (w.house 0) })) ∷ []) []) (rules.with_desk (kept r from calm t low heard ea) (w.house 0)))
+      go : (b : Bool) → agreed (rules.houses (w.house 0)) (kept r from calm t low heard ea) ≡ b → TracksBy Deed.closes true n 0 w (sends (cond b (letter (message.Complete (record { 0 = rules.census (w.house 0) })) ∷ []) []) (rules.with_desk (kept r from calm t low heard ea) (w.house 0)))
       go true e = tracks_completes r from calm t low heard ea (ap (λ (k : ℕ). agreed k (kept r from calm t low heard ea)) (sym f.houses) ∙ e)
       go false e = tracks_kept r from calm t low heard ea
   tracks_notes r from calm t low heard false b ea eb =
-      subst (λ (x : rounds.Desk). Tracks true n 0 w (sends [] (rules.with_desk x h))) (sym (cond-false (notes r from d) _ d ea))
+      subst (λ (x : rounds.Desk). TracksBy Deed.closes true n 0 w (sends [] (rules.with_desk x h))) (sym (cond-false (notes r from d) _ d ea))
       (λ q. arrives n 0 w h true [] (seen n w) Way.same
       (alike_by n 0 w h [] (seen n w) q (house_kept w 0 h (house_refl _)) (made_kept w 0 h refl) (part_kept w 0 h (part_refl _)) d refl (desk_kept w 0 h refl) (both_refl _) (both_refl _)))
 
-  tracks_noted : (c r from : ℕ) (calm : Bool) (t : ℕ) → from < n → Memᴰ (Reply c r from calm t) (seen n w).said → Tracks true n 0 w (noting c r from calm t h)
+  tracks_noted : (c r from : ℕ) (calm : Bool) (t : ℕ) → from < n → Memᴰ (Reply c r from calm t) (seen n w).said → TracksBy Deed.closes true n 0 w (noting c r from calm t h)
   tracks_noted c r from calm t low heard =
       tracks_unless true n 0 w (not (asks (rules.self h))) Misdelivered _ (λ a.
       tracks_unless true n 0 w (not (eqb c (rules.census h))) OtherCensus _ (λ b.
       let own = eqb-true c (rules.census h) (not-false (eqb c (rules.census h)) b) in
-      subst (λ (z : ℕ). Tracks true n 0 w (sends (cond (completes (rules.houses h) r from calm t d) (letter (message.Complete (record { 0 = z })) ∷ []) []) (rules.with_desk (noted r from calm t d) h))) (sym own)
+      subst (λ (z : ℕ). TracksBy Deed.closes true n 0 w (sends (cond (completes (rules.houses h) r from calm t d) (letter (message.Complete (record { 0 = z })) ∷ []) []) (rules.with_desk (noted r from calm t d) h))) (sym own)
       (tracks_notes r from calm t low (subst (λ (z : ℕ). Memᴰ (Reply z r from calm t) (seen n w).said) own heard) (notes r from d) (agreed (rules.houses h) (noted r from calm t d)) refl refl)))
 
 -- at any house: only the one that asks does anything
@@ -221,14 +231,14 @@ module _ (n i : ℕ) (w : World) (f : Firm n i (w.house i)) where
   asker_is : asks (rules.self (w.house i)) ≡ true → 0 ≡ i
   asker_is e = sym (eqb-true (rules.self (w.house i)) 0 e) ∙ f.self
 
-  pub tracks_round : Runs n (seen n w) → Tracks true n i w (step (w.house i) round)
+  pub tracks_round : Runs n (seen n w) → TracksBy (round_at i (w.house i)) true n i w (step (w.house i) round)
   tracks_round runs =
       tracks_unless true n i w (not (asks (rules.self (w.house i)))) WrongHouse _
-      (λ a. subst (λ (k : ℕ). Firm n k (w.house k) → Tracks true n k w (begins (beginning (rules.houses (w.house k)) (w.house k).desk) (w.house k))) (asker_is (not-false (asks (rules.self (w.house i))) a)) (λ g. tracks_begins n w g runs) f)
+      (λ a. subst (λ (k : ℕ). Firm n k (w.house k) → TracksBy (round_at k (w.house k)) true n k w (begins (beginning (rules.houses (w.house k)) (w.house k).desk) (w.house k))) (asker_is (not-false (asks (rules.self (w.house i))) a)) (λ g. tracks_begins n w g runs) f)
 
-  pub tracks_noting : (c r from : ℕ) (calm : Bool) (t : ℕ) → from < n → Memᴰ (Reply c r from calm t) (seen n w).said → Tracks true n i w (noting c r from calm t (w.house i))
+  pub tracks_noting : (c r from : ℕ) (calm : Bool) (t : ℕ) → from < n → Memᴰ (Reply c r from calm t) (seen n w).said → TracksBy (reply_at i) true n i w (noting c r from calm t (w.house i))
   tracks_noting c r from calm t low heard = go (asks (rules.self (w.house i))) refl
     where
-      go : (b : Bool) → asks (rules.self (w.house i)) ≡ b → Tracks true n i w (noting c r from calm t (w.house i))
-      go true e = subst (λ (k : ℕ). Firm n k (w.house k) → Tracks true n k w (noting c r from calm t (w.house k))) (asker_is e) (λ g. tracks_noted n w g c r from calm t low heard) f
+      go : (b : Bool) → asks (rules.self (w.house i)) ≡ b → TracksBy (reply_at i) true n i w (noting c r from calm t (w.house i))
+      go true e = subst (λ (k : ℕ). Firm n k (w.house k) → TracksBy (reply_at k) true n k w (noting c r from calm t (w.house k))) (asker_is e) (λ g. tracks_noted n w g c r from calm t low heard) f
       go false e = tracks_unless true n i w (not (asks (rules.self (w.house i)))) Misdelivered _ (λ a. absurd (both_ways (asks (rules.self (w.house i))) e (not-false (asks (rules.self (w.house i))) a)))

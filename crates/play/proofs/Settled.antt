@@ -9,7 +9,7 @@ use Rattle.play.specs.Seen.{seen}
 use Rattle.play.specs.Exact.{Joined, Swept, Exactly, LinesMatter, Settles, AlwaysSettles, NothingLeft}
 use Rattle.play.specs.Settle.{words, joins, above, completing, collects, and_then, settling}
 use Rattle.play.proofs.Tracking.{Kept, kept}
-use Rattle.play.proofs.Promise.{safe}
+use Rattle.play.proofs.Promise.{has_there}
 use Rattle.play.proofs.FairEntries.{plays_append, kept_plays, way_plays, same_plays}
 use Rattle.play.proofs.FairPump.{cleanly_joins, cleanly_completing, cleanly_settling}
 use Rattle.play.proofs.FairSteps.{Fairly}
@@ -72,7 +72,7 @@ module _ (n : ℕ) (w : World) (some : 0 < n) (k : Kept n w) (low : (i : ℕ) �
         exact = subst (λ (v : World). Exactly n v) (sym whole) left.0;
         lines = subst (λ (v : World). LinesMatter n v) (sym whole) left.1;
         same = same_plays n (settling n w) w k (cleanly_settling n w k);
-        there = (safe n (plays n (settling n w) w) some (kept_plays n (settling n w) w k)).there;
+        there = has_there n (plays n (settling n w) w) (kept_plays n (settling n w) w k);
       }
 
 -- from every world that is kept

@@ -24,7 +24,7 @@ use Rattle.play.specs.Play.{World, put}
 use Rattle.play.specs.Seen.{house_seen, part_seen, seen}
 use Rattle.play.proofs.Sending.{Both, both_refl, msgs_of, notes_of}
 use Rattle.play.proofs.Firm.{Firm}
-use Rattle.play.proofs.Frame.{Way, Tracks, arrives, alike_by, house_kept, house_refl, part_put, part_refl, made_kept, desk_kept}
+use Rattle.play.proofs.Frame.{Deed, Way, free, Tracks, arrives, alike_by, house_kept, house_refl, part_put, part_refl, made_kept, desk_kept}
 use Rattle.play.proofs.Likeness.{same_test}
 use Rattle.play.proofs.Programs.{truth}
 use Rattle.play.proofs.Cleaning.{untruth}
@@ -69,18 +69,18 @@ tellings_rest (o ∷ os) p = tellings_rest os p
 abbrev told_world : promise.World → ℕ → List ℕ → promise.World
 told_world w i os = record { net = record { house = w.net.house; sent = marks_of (census_of w i) i os ++ w.net.sent; made = w.net.made }; part = put i (tellings os (w.part i)) w.part; desk = w.desk; said = w.said }
 
-tells_all : (n i : ℕ) (w : promise.World) → i < n → (os : List ℕ) → ((o : ℕ) → Memᴰ o os → (home o ≡ i → ⊥) × Used (census_of w i) (w.net.house i) o) → Way true n w (told_world w i os)
+tells_all : (n i : ℕ) (w : promise.World) → i < n → (os : List ℕ) → ((o : ℕ) → Memᴰ o os → (home o ≡ i → ⊥) × Used (census_of w i) (w.net.house i) o) → Way Deed.leaves true n w (told_world w i os)
 tells_all n i w inside [] f =
     Way.more Way.same (Turn.alike w (told_world w i [])
-    (record { net = record { house = λ j. house_refl _; sent = λ x. (λ m. m, λ m. m); made = λ j. refl }; part = λ j. here j (eqb j i) refl; round = refl; now = λ j. refl; before = λ j. refl; said = λ x. (λ m. m, λ m. m) })) (λ _. tt)
+    (record { net = record { house = λ j. house_refl _; sent = λ x. (λ m. m, λ m. m); made = λ j. refl }; part = λ j. here j (eqb j i) refl; round = refl; now = λ j. refl; before = λ j. refl; said = λ x. (λ m. m, λ m. m) })) free free (λ _. tt)
   where
     here : (j : ℕ) (b : Bool) → eqb j i ≡ b → AlikePart (w.part j) (cond b (w.part i) (w.part j))
     here j true e = subst (λ (k : ℕ). AlikePart (w.part j) (w.part k)) (eqb→eq j i (truth e)) (part_refl _)
     here j false e = part_refl _
 tells_all n i w inside (o ∷ os) f =
-    Way.more (Way.more (tells_all n i w inside os (λ q m. f q (Memᴰ.tail m))) (Turn.tell (told_world w i os) i o inside (f o (Memᴰ.head refl)).0 (f o (Memᴰ.head refl)).1) (λ _. tt))
+    Way.more (Way.more (tells_all n i w inside os (λ q m. f q (Memᴰ.tail m))) (Turn.tell (told_world w i os) i o inside (f o (Memᴰ.head refl)).0 (f o (Memᴰ.head refl)).1) free free (λ _. tt))
     (Turn.alike _ (told_world w i (o ∷ os))
-    (record { net = record { house = λ j. house_refl _; sent = λ x. (λ m. m, λ m. m); made = λ j. refl }; part = λ j. here j (eqb j i) (eqb i i) (untruth (eqb_refl i)); round = refl; now = λ j. refl; before = λ j. refl; said = λ x. (λ m. m, λ m. m) })) (λ _. tt)
+    (record { net = record { house = λ j. house_refl _; sent = λ x. (λ m. m, λ m. m); made = λ j. refl }; part = λ j. here j (eqb j i) (eqb i i) (untruth (eqb_refl i)); round = refl; now = λ j. refl; before = λ j. refl; said = λ x. (λ m. m, λ m. m) })) free free (λ _. tt)
   where
     here : (j : ℕ) (b c : Bool) → c ≡ true → AlikePart (cond b (telling o (cond c (tellings os (w.part i)) (w.part i))) (cond b (tellings os (w.part i)) (w.part j))) (cond b (telling o (tellings os (w.part i))) (w.part j))
     here j true true e = part_refl _

@@ -1,5 +1,6 @@
 pub mod Play
 pub mod Seen
+pub mod History
 pub mod Promise
 pub mod Apart
 pub mod Settle

@@ -13,10 +13,10 @@ use Rattle.rules.specs.House.{census}
 use Rattle.rules.specs.Step.{make, step}
 use Rattle.rules.specs.Sound.{Sound}
 use Rattle.promise.specs.House.{count_of}
-use Rattle.promise.specs.Net as net
-use Rattle.promise.specs.Promise.{Anywhere, WasComplete, Called}
+use Rattle.promise.specs.Promise.{Anywhere}
 use Rattle.play.specs.Play.{World, Entry, play, cleaning, Reach}
 use Rattle.play.specs.Seen.{seen}
+use Rattle.play.specs.History.{Complete, WasComplete, Called}
 
 -- House j has a reference that matters: as a root, on its way to it, or in a field of an object of its own that somebody has a reference to that matters. A give is on its way as long as its stamp is above what the receiver has seen of the home.
 pub data Has (n : ℕ) (w : World) : ℕ → ℕ → Type 0 where
@@ -28,10 +28,6 @@ pub data Has (n : ℕ) (w : World) : ℕ → ℕ → Type 0 where
 pub record There (w : World) (j o : ℕ) : Type 0 where
   pub present_at_home : present o (w.house (home o)).heap.objects ≡ true
   pub known : (home o ≡ j) ⊎ (listed o j (w.house (home o)).list ≡ true)
-
--- a census has reached everything: all houses are in it, every far reference in use has a line of it, and every telling of it is settled
-abbrev pub Complete : ℕ → ℕ → World → Type 0
-Complete n c w = net.Complete n c (seen n w).net
 
 -- the same references matter
 abbrev pub SameMatters : ℕ → World → World → Type 0
@@ -50,10 +46,10 @@ pub record Safe (n : ℕ) (w : World) : Type 0 where
   pub new : (i k : ℕ) → i < n → is_ok (step (w.house i) (make k)).answer ≡ true → Anywhere (seen n w).net (k * 16 + i) → ⊥
   -- an object is at home, and once
   pub once : (i o : ℕ) → present o (w.house i).heap.objects ≡ true → (home o ≡ i) × (count_of o (w.house i).heap.objects ≡ 1)
-  -- a census that two rounds found complete was complete at the moment when the second was begun
-  pub truly : agreed n (w.house 0).desk ≡ true → WasComplete n (seen n w)
+  -- a census that two rounds found complete was complete just before the call that began the second, in a play that leads here
+  pub truly : agreed n (w.house 0).desk ≡ true → WasComplete n w
   -- and so was every census of which the news is among the messages that it is complete, however old
-  pub called : (c : ℕ) (bs : List ℕ) → Memᴰ bs w.sent → decode n bs ≡ Ok (message.Complete (record { 0 = c })) → Called n c (seen n w)
+  pub called : (c : ℕ) (bs : List ℕ) → Memᴰ bs w.sent → decode n bs ≡ Ok (message.Complete (record { 0 = c })) → Called n c w
   -- and it still is, if no house has joined another
   pub still : agreed n (w.house 0).desk ≡ true → ((i : ℕ) → i < n → census (w.house i) ≡ census (w.house 0)) → Complete n (census (w.house 0)) w
   -- in a complete census all that matters was found in use
