@@ -69,13 +69,14 @@ pub data Deed : Type 0 where
   closes : Deed
   any : Deed
 
--- a step may begin a round, if it is the first
+-- what a step needs to begin a round, where first says that it is the first of all
 abbrev pub MayBegin : Deed → Type 0 → Type 0
 MayBegin Deed.leaves first = ⊥
 MayBegin Deed.opens first = first
 MayBegin Deed.closes first = ⊥
 MayBegin Deed.any first = Unit {0}
 
+-- and to tell that two rounds agree
 abbrev pub MayTell : Deed → Type 0
 MayTell Deed.leaves = ⊥
 MayTell Deed.opens = ⊥
@@ -87,7 +88,7 @@ pub data Way (deed : Deed) (cleaning : Bool) (n : ℕ) : promise.World → promi
   same : {w : promise.World} → Way deed cleaning n w w
   more : {w v u : promise.World} → Way deed cleaning n w v → (t : Turn n v u) → (begins t ≡ true → MayBegin deed (w ≡ v)) → (tells t ≡ true → MayTell deed) → (cleaning ≡ true → Collects t) → Way deed cleaning n w u
 
--- what is asked of another kind of step
+-- nothing is asked of a step of another kind
 pub free : {A : Type 0} → false ≡ true → A
 free e = absurd (false≢true e)
 
@@ -95,7 +96,7 @@ free e = absurd (false≢true e)
 abbrev pub TracksBy : Deed → Bool → ℕ → ℕ → World → Outcome → Type 0
 TracksBy d b n i w x = ReadableSaid n x.answer → Way d b n (seen n w) (seen n (moved i x.house (written x.answer) w))
 
--- and leave the rounds to themselves
+-- and leave the rounds alone
 abbrev pub Tracks : Bool → ℕ → ℕ → World → Outcome → Type 0
 Tracks b n i w x = TracksBy Deed.leaves b n i w x
 

@@ -72,7 +72,7 @@ abbrev pub round_at : ℕ → rules.House → Deed
 round_at zero h = cond (ready (rules.houses h) h.desk && ltb h.desk.round 4294967295) Deed.opens Deed.leaves
 round_at (suc i) h = Deed.leaves
 
--- an answer to a round may be the last one, at the house that asks
+-- an answer to a round may tell that two agree, at the house that asks
 abbrev pub reply_at : ℕ → Deed
 reply_at zero = Deed.closes
 reply_at (suc i) = Deed.leaves

@@ -68,7 +68,7 @@ unfoldable pub runs_on : {d : Deed} {b : Bool} {n : ℕ} {w v : promise.World} �
 runs_on r Way.same = r
 runs_on r (Way.more l t _ _ c) = Runs.then (runs_on r l) t
 
--- what an entry does with the rounds: only the call round of the house that asks begins one, and only an answer that came there tells of their end
+-- what an entry does with the rounds: only the call round of the house that asks begins one, and only an answer that comes there tells that two agree
 abbrev pub deed_called : ℕ → rules.House → Call → Deed
 deed_called i h call.Round = round_at i h
 deed_called i h c = Deed.leaves

@@ -22,17 +22,20 @@ after n es = plays n es (begin n)
 abbrev pub asking : Entry
 asking = calls 0 call.Round
 
--- Among the entries is the call round of house 0 that began the round that house 0 has now; and just before this call the census that it is in now was complete.
+-- The census that house 0 is in after these entries was complete just before the call that began the round that it has then.
 pub record Truly (n : ℕ) (es : List Entry) : Type 0 where
+  -- the call is one of the entries
   pub before : List Entry
   pub later : List Entry
   pub played : es ≡ before ++ (asking ∷ later)
+  -- house 0 was in the census, and by the call it came to the round that it still has
   pub same_census : census ((after n before).house 0) ≡ census ((after n es).house 0)
   pub begun : suc ((after n before).house 0).desk.round ≡ ((after n (before ++ (asking ∷ []))).house 0).desk.round
   pub still : ((after n (before ++ (asking ∷ []))).house 0).desk.round ≡ ((after n es).house 0).desk.round
+  -- in the world just before it the census had reached everything
   pub complete : Complete n (census ((after n es).house 0)) (after n before)
 
--- After the first of the entries two rounds of census c had agreed, and it was complete when the second was begun.
+-- After the first of these entries two rounds of census c agreed, and it was complete just before the call that began the second.
 pub record Found (n c : ℕ) (es : List Entry) : Type 0 where
   pub first : List Entry
   pub later : List Entry
@@ -41,18 +44,17 @@ pub record Found (n c : ℕ) (es : List Entry) : Type 0 where
   pub agree : agreed n ((after n first).house 0).desk ≡ true
   pub truly : Truly n first
 
--- Wherever two rounds agree, the census was complete when the second was begun, in this very play.
+-- Where two rounds agree the census was complete just before the call that began the second, which is one of these very entries.
 abbrev pub AlwaysTruly : Type 0
 AlwaysTruly = (n : ℕ) → 0 < n → n ≤ 16 → (es : List Entry) → agreed n ((after n es).house 0).desk ≡ true → Truly n es
 
--- Wherever the news is among the messages that a census is complete, however old, it was found so in this very play.
+-- Wherever the news is among the messages that a census is complete, however old, it was found so after some of these very entries, and was.
 abbrev pub AlwaysCalled : Type 0
 AlwaysCalled = (n : ℕ) → 0 < n → n ≤ 16 → (es : List Entry) → (c : ℕ) (bs : List ℕ) → Memᴰ bs (after n es).sent → decode n bs ≡ Ok (message.Complete (record { 0 = c })) → Found n c es
 
--- some entries lead to w, and in the play of these the census that two rounds found complete was so
+-- the same, of some entries that lead to w
 abbrev pub WasComplete : ℕ → World → Type 0
 WasComplete n w = (es : List Entry) × (after n es ≡ w) × Truly n es
 
--- some entries lead to w, and in the play of these census c was found complete, and was so
 abbrev pub Called : ℕ → ℕ → World → Type 0
 Called n c w = (es : List Entry) × (after n es ≡ w) × Found n c es

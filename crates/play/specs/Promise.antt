@@ -46,7 +46,7 @@ pub record Safe (n : ℕ) (w : World) : Type 0 where
   pub new : (i k : ℕ) → i < n → is_ok (step (w.house i) (make k)).answer ≡ true → Anywhere (seen n w).net (k * 16 + i) → ⊥
   -- an object is at home, and once
   pub once : (i o : ℕ) → present o (w.house i).heap.objects ≡ true → (home o ≡ i) × (count_of o (w.house i).heap.objects ≡ 1)
-  -- a census that two rounds found complete was complete just before the call that began the second, in a play that leads here
+  -- a census that two rounds found complete was complete just before the call that began the second
   pub truly : agreed n (w.house 0).desk ≡ true → WasComplete n w
   -- and so was every census of which the news is among the messages that it is complete, however old
   pub called : (c : ℕ) (bs : List ℕ) → Memᴰ bs w.sent → decode n bs ≡ Ok (message.Complete (record { 0 = c })) → Called n c w
