@@ -58,20 +58,3 @@ names_in c [] = refl
 names_in c (e ∷ es) =
     elim (e.census == c) as (λ b. names (cond b (e ∷ filter (λ x. x.census == c) es) (filter (λ x. x.census == c) es)) ≡ map name (cond b (e.object ∷ objects_in c es) (objects_in c es)))
     [ true ↦ ap (λ r. name e.object ∷ r) (names_in c es) | false ↦ names_in c es ]
-
--- one line more, by whether it is unheard and whether it has the number
-joined_line : (c : ℕ) (heard : ℕ → ℕ) (e : Listed) (es : List Listed) (b d : Bool) → ltb (heard e.holder) e.stamp ≡ b → eqb e.census c ≡ d →
-    objects_in c (joined c heard (e ∷ es)) ≡ cond (b || d) (e.object ∷ objects_in c (joined c heard es)) (objects_in c (joined c heard es))
-unfolding objects_in joined
-joined_line c heard e es true d p q = rw (p, eq-eqb c c refl)
-joined_line c heard e es false d p q = rw (p, q)
-
-pub names_joining : (c : ℕ) (heard : ℕ → ℕ) (es : List Listed) → names (filter (joins c heard) es) ≡ map name (objects_in c (joined c heard es))
-unfolding objects_in joined
-names_joining c heard [] = refl
-names_joining c heard (e ∷ es) =
-    let J = objects_in c (joined c heard es) in
-    let step : names (filter (joins c heard) (e ∷ es)) ≡ map name (cond (joins c heard e) (e.object ∷ J) J) =
-    elim (joins c heard e) as (λ b. names (cond b (e ∷ filter (joins c heard) es) (filter (joins c heard) es)) ≡ map name (cond b (e.object ∷ J) J))
-    [ true ↦ ap (λ r. name e.object ∷ r) (names_joining c heard es) | false ↦ names_joining c heard es ] in
-    step ∙ ap (map name) (sym (joined_line c heard e es _ _ refl refl))

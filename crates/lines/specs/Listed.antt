@@ -48,10 +48,6 @@ unfoldable pub joined : ℕ → (ℕ → ℕ) → List Listed → List Listed
 joined c heard [] = []
 joined c heard (e ∷ es) = cond (nat_lt (heard e.holder) e.stamp) (line e.object e.holder e.stamp c) e ∷ joined c heard es
 
--- a line that has the number after a join
-abbrev pub joins : ℕ → (ℕ → ℕ) → Listed → Bool
-joins c heard e = nat_lt (heard e.holder) e.stamp || e.census == c
-
 -- a holder's word takes a line away: what it holds, and the highest stamp that it has seen
 abbrev pub goes : ℕ → List ℕ → ℕ → Listed → Bool
 goes j held upto e = e.holder == j && nat_le e.stamp upto && not (is_in e.object held)
