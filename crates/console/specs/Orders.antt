@@ -1,5 +1,5 @@
 -- What becomes of an order, and what is printed of an answer.
-use Rattle.std.specs.Prelude.{◌≡◌, Bool, true, false, ℕ, List, [], ◌++◌, map, option_map, Some, None, Ok, Err, Option}
+use Rattle.std.specs.Prelude.{◌≡◌, Bool, false, ℕ, ◌%◌, List, [], ◌++◌, map, length, option_map, Some, None, Ok, Err, Option, ◌==◌}
 use Rattle.wire.specs.declared.refusal.Refusal.TheVariants.{Malformed}
 use Rattle.text.specs.Hex.{hex_of}
 use Rattle.text.specs.Lines.{Said, call, got}
@@ -15,10 +15,10 @@ abbrev pub event_in : Said → Option Event
 event_in (call c) = Some (event_of c)
 event_in (got ds) = option_map came (hex_of ds)
 
--- an order that gives bytes by their digits
+-- an order that gives bytes by their digits, which are even in number
 abbrev pub spells : Said → Bool
 spells (call c) = false
-spells (got ds) = true
+spells (got ds) = length ds % 2 == 0
 
 -- what is answered to it, and the house afterwards
 abbrev pub Follows : Answer → Option Event → House → House → Type 0

@@ -11,7 +11,7 @@ use store::Store;
 use text::Order;
 use wire::Refusal;
 
-// A house does what it is told. Memory for that is wanted only to spell out bytes.
+// A house does what it is told. Memory for that is wanted only to spell out bytes, from digits that are even in number.
 pub fn follow(heap: Global, store: &mut Store, order: Order<'_>) -> Result<Answer, AllocError>
     ensures step { IfOk result (λ a. Follows a (event_in (said order.entry)) (house_in store.old) (house_in store.new)) }
     ensures kept { OnErr result (house_in store.new ≡ house_in store.old) }
