@@ -1,11 +1,10 @@
 -- The objects of the lines that pass a test, gathered one by one.
-use Rattle.std.proofs.Common.{◌≡◌, ℕ, ◌+◌, ◌<◌, ◌≤◌, Bool, true, false, cond, ◌||◌, ◌==◌, ltb, eqb, List, [], ◌∷◌, ◌++◌, map, length, take, set, sym, refl, ap, ◌∙◌, subst, arith, length-set}
+use Rattle.std.proofs.Common.{◌≡◌, ℕ, ◌+◌, ◌<◌, ◌≤◌, Bool, true, false, cond, ◌==◌, List, [], ◌∷◌, ◌++◌, map, length, take, set, sym, refl, ap, ◌∙◌, subst, arith, length-set}
 use Rattle.std.proofs.lemmas.List.{take_more_set, map-append}
-use Rattle.std.proofs.lemmas.Bool.{eq-eqb}
 use Rattle.std.specs.List.{filter}
 use Rattle.wire.specs.Names.{name}
 use Rattle.wire.specs.declared.names.Name.{Name}
-use Rattle.lines.specs.Listed.{Listed, objects_listed, objects_in, joined, joins}
+use Rattle.lines.specs.Listed.{Listed, objects_listed, objects_in}
 use Rattle.lines.specs.Columns.{rows}
 use Rattle.lines.specs.Lists.{shown, Decides}
 use Rattle.lines.specs.declared.line.Line.{Line}

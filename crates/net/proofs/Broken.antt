@@ -8,7 +8,7 @@ use Rattle.net.specs.Settling.{BrokenOff, short, lost, later}
 
 pub broken_front : (n : ℕ) (es fs : List Entry) {w v : World} → BrokenOff n es w v → BrokenOff n (es ++ fs) w v
 broken_front n [] fs {w = w} {v = v} b = elim b [ ]
-broken_front n (e ∷ es) fs (short a) = short a
+broken_front n (e ∷ es) fs (short a b) = short a b
 broken_front n (e ∷ es) fs (lost a) = lost a
 broken_front n (e ∷ es) fs (later b) = later (broken_front n es fs b)
 

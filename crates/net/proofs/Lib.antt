@@ -5,3 +5,4 @@ pub mod Broken
 pub mod SettlingParts
 pub mod SettlingReads
 pub mod SettlingWhole
+pub mod Sent

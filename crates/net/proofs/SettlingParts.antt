@@ -10,7 +10,7 @@ use Rattle.play.specs.Play.{World, Entry, calls, delivers, happens, written, pla
 use Rattle.play.specs.Settle.{deliveries, and_then, pump, each, pass, tallies, passes}
 use Rattle.play.proofs.FairEntries.{plays_append}
 use Rattle.net.proofs.Entered.{put_back, world_same}
-use Rattle.net.specs.Nets.{Played, count, world, faithful, Plays, is_lost, had_memory}
+use Rattle.net.specs.Nets.{Played, count, world, faithful, Plays, had_memory}
 use Rattle.net.specs.Settling.{Script, BrokenOff, short, lost, Along}
 use Rattle.net.proofs.Broken.{broken_front, broken_after, broken_each}
 use Rattle.net.specs.declared.net.Net.{Net}
@@ -36,13 +36,13 @@ yes : {X : Type 0} → false ≡ true → X
 yes z = absurd (false≢true z)
 
 -- one entry
-went : (r : Played) (e : Entry) (t u : Net) → Plays r (count t) e (world t) (world u) → faithful u ≡ cond (is_lost r) false (faithful t) → count u ≡ count t → Along (had_memory r) (λ n w. e ∷ []) t u
-went (Ok z) e t u p f k = record { houses = k; played = λ _. p.1; faithful = λ _. f; broken = λ z. no z }
-went (Err (Fault (Refused x))) e t u p f k = record { houses = k; played = λ _. p.1 ∙ sym (refused_same (count t) e (world t) x p.0); faithful = λ _. f; broken = λ z. no z }
-went (Err (Fault NoMemory)) e t u p f k = record { houses = k; played = λ z. yes z; faithful = λ _. f; broken = λ _. subst (λ (v : World). BrokenOff (count t) (e ∷ []) (world t) v) (sym p.1) (short p.0) }
-went (Err Lost) e t u p f k = record { houses = k; played = λ z. yes z; faithful = λ z. yes z; broken = λ _. subst (λ (v : World). BrokenOff (count t) (e ∷ []) (world t) v) (sym p.1) (lost p.0) }
+went : (r : Played) (e : Entry) (t u : Net) → Plays r (count t) e (world t) (world u) → faithful u ≡ faithful t → count u ≡ count t → Along (had_memory r) (λ n w. e ∷ []) t u
+went (Ok z) e t u p f k = record { houses = k; faithful = f; played = λ _. p.1; broken = λ z. no z }
+went (Err (Fault (Refused x))) e t u p f k = record { houses = k; faithful = f; played = λ _. p.1 ∙ sym (refused_same (count t) e (world t) x p.0); broken = λ z. no z }
+went (Err (Fault NoMemory)) e t u p f k = record { houses = k; faithful = f; played = λ z. yes z; broken = λ _. subst (λ (v : World). BrokenOff (count t) (e ∷ []) (world t) v) (sym p.2) (short p.0 p.1) }
+went (Err Lost) e t u p f k = record { houses = k; faithful = f; played = λ z. yes z; broken = λ _. subst (λ (v : World). BrokenOff (count t) (e ∷ []) (world t) v) (sym p.1) (lost p.0) }
 
-pub along_one : (b : Bool) (r : Played) (e : Entry) (t u : Net) → b ≡ had_memory r → Plays r (count t) e (world t) (world u) → faithful u ≡ cond (is_lost r) false (faithful t) → count u ≡ count t → Along b (λ n w. e ∷ []) t u
+pub along_one : (b : Bool) (r : Played) (e : Entry) (t u : Net) → b ≡ had_memory r → Plays r (count t) e (world t) (world u) → faithful u ≡ faithful t → count u ≡ count t → Along b (λ n w. e ∷ []) t u
 along_one b r e t u q p f k = subst (λ (x : Bool). Along x (λ n w. e ∷ []) t u) (sym q) (went r e t u p f k)
 
 pub along_off : (b : Bool) (f : Script) (t u : Net) → b ≡ false → Along false f t u → Along b f t u
@@ -70,7 +70,7 @@ along_then r f g t u v a b =
       played = λ z.
           b.played z ∙ ap (λ (n : ℕ). plays n (g n (world u)) (world u)) a.houses ∙ ap (λ (x : World). plays (count t) (g (count t) x) x) (a.played refl)
           ∙ sym (plays_append (count t) (f (count t) (world t)) (g (count t) (plays (count t) (f (count t) (world t)) (world t))) (world t));
-      faithful = λ z. b.faithful z ∙ a.faithful refl;
+      faithful = b.faithful ∙ a.faithful;
       broken = λ z.
           broken_after (count t) (f (count t) (world t)) (g (count t) (plays (count t) (f (count t) (world t)) (world t))) (world t)
           (moved (count u) (count t) g (world u) (plays (count t) (f (count t) (world t)) (world t)) (world v) a.houses (a.played refl) (b.broken z));
@@ -82,7 +82,7 @@ along_front f g t u a =
     record {
       houses = a.houses;
       played = λ z. yes z;
-      faithful = λ z. yes z;
+      faithful = a.faithful;
       broken = λ _. broken_front (count t) (f (count t) (world t)) (g (count t) (plays (count t) (f (count t) (world t)) (world t))) (a.broken refl);
     }
 
@@ -94,7 +94,7 @@ along_each f i t u v a b = subst (λ (k : ℕ). Along true (λ n w. each n (f n)
 pub each_off : (f : ℕ → ℕ → World → List Entry) (i : ℕ) (t u v : Net) → i < count t → Along true (λ n w. each n (f n) i w) t u → Along false (λ n w. f n i w) u v → Along false (λ n w. each n (f n) n w) t v
 each_off f i t u v lt a b =
     let z = along_then false (λ n w. each n (f n) i w) (λ n w. f n i w) t u v a b in
-    record { houses = z.houses; played = λ z. yes z; faithful = λ z. yes z; broken = λ _. broken_each (count t) (f (count t)) (suc i) (count t) (world t) lt (z.broken refl) }
+    record { houses = z.houses; played = λ z. yes z; faithful = z.faithful; broken = λ _. broken_each (count t) (f (count t)) (suc i) (count t) (world t) lt (z.broken refl) }
 
 -- On the way from t, at u: to play the entries f from t is to play those of g from u.
 pub record Rest (f g : Script) (t u : Net) : Type 0 where
@@ -123,7 +123,7 @@ rest_step f g a h t u v r b eq =
       left =
           r.left ∙ ap (λ (es : List Entry). plays (count t) es (world u)) eq ∙ plays_append (count t) (a (count t) (world u)) (h (count t) (plays (count t) (a (count t) (world u)) (world u))) (world u)
           ∙ ap (λ (x : World). plays (count t) (h (count t) x) x) (sym there);
-      faithful = b.faithful refl ∙ r.faithful;
+      faithful = b.faithful ∙ r.faithful;
       broken = λ x q.
           r.broken x
           (subst (λ (es : List Entry). BrokenOff (count t) es (world u) x) (sym eq)
@@ -138,7 +138,7 @@ rest_off f g a h t u v r b eq =
     record {
       houses = b.houses ∙ r.houses;
       played = λ z. yes z;
-      faithful = λ z. yes z;
+      faithful = b.faithful ∙ r.faithful;
       broken = λ _.
           r.broken (world v)
           (subst (λ (es : List Entry). BrokenOff (count t) es (world u) (world v)) (sym eq)
@@ -146,7 +146,7 @@ rest_off f g a h t u v r b eq =
     }
 
 pub rest_end : (f g : Script) (t u : Net) → g (count t) (world u) ≡ [] → Rest f g t u → Along true f t u
-rest_end f g t u e r = record { houses = r.houses; played = λ _. sym (r.left ∙ ap (λ (es : List Entry). plays (count t) es (world u)) e); faithful = λ _. r.faithful; broken = λ z. no z }
+rest_end f g t u e r = record { houses = r.houses; played = λ _. sym (r.left ∙ ap (λ (es : List Entry). plays (count t) es (world u)) e); faithful = r.faithful; broken = λ z. no z }
 
 -- deliveries
 less : (j : ℕ) → j ≡ suc j - 1

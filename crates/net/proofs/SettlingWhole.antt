@@ -1,18 +1,19 @@
 -- The whole of settling: what it leaves is exactly what matters.
-use Rattle.std.proofs.Common.{◌≡◌, ℕ, ◌+◌, ◌≤◌, Bool, true, false, List, [], length, vec_items, sym, refl, ap, ◌∙◌, subst}
+use Rattle.std.proofs.Common.{◌≡◌, ℕ, ◌+◌, ◌≤◌, Bool, true, false, List, [], length, IsErrAnd, Ok, Err, Result, vec_items, sym, refl, ap, ◌∙◌, subst}
 use mathlib.Core.Logic.{∥∥₁_map}
 use Rattle.wire.specs.declared.call.Call.TheVariants as call
+use Rattle.objects.specs.declared.fault.Fault.{Fault}
+use Rattle.objects.specs.declared.fault.Fault.TheVariants.{NoMemory}
 use Rattle.store.specs.declared.table.Store.{Store}
 use Rattle.store.specs.Sending.{contents}
 use Rattle.play.specs.Play.{World}
 use Rattle.play.specs.Settle.{and_then, calling, each, words, above, tallies, joins, completing, collects, settling}
-use Rattle.play.specs.Exact.{Settles}
-use Rattle.play.proofs.Exactness.{always_settles}
-use Rattle.play.proofs.Bounds.{bounded}
+use Rattle.play.specs.ExactPart.{SettlesPart}
+use Rattle.play.proofs.ExactPart.{settles_part, bounded_part}
 use Rattle.play.specs.Bound.{line_count, most}
 use Rattle.net.specs.Worlds.{world_of}
 use Rattle.net.specs.Nets.{count, world, Promised}
-use Rattle.net.specs.Settling.{Script, Along, Whole}
+use Rattle.net.specs.Settling.{Script, Along, IsLeft, Whole, Short, Ends}
 use Rattle.net.specs.declared.net.Net.{Net}
 use Rattle.net.proofs.Entered.{promised}
 use Rattle.net.proofs.SettlingParts.{along_then, along_front, along_as}
@@ -55,15 +56,25 @@ not_joined t a b words-said off = along_then false (λ n w. words n w) from_join
 pub not_said : (t a : Net) → Along false (λ n w. words n w) t a → Along false (λ n w. settling n w) t a
 not_said t a off = along_front (λ n w. words n w) from_joins t a off
 
-pub whole : (t d : Net) → above (count t) (world t) ≤ 4294967295 → Along true (λ n w. settling n w) t d → Whole t d
+pub whole : (t d : Net) → IsLeft t → Along true (λ n w. settling n w) t d → Whole t d
 whole t d le a =
     record {
+      left = le;
+      faithful = a.faithful;
       played = a.played refl;
-      faithful = a.faithful refl;
       exact = λ f.
-          subst (λ (x : World). ∥ Settles (count t) (world t) x ∥₁) (sym (a.played refl))
-          (∥∥₁_map (t.reached f) (λ z. always_settles (count t) t.some t.few (world t) z (above_left (count t) (world t) 4294967295 le)));
+          subst (λ (x : World). ∥ SettlesPart (count t) (world t) x ∥₁) (sym (a.played refl))
+          (∥∥₁_map (t.reached f) (λ z. settles_part (count t) t.some t.few (world t) z (above_left (count t) (world t) 4294967295 le)));
       bounded = λ f.
           subst (λ (x : World). ∥ length x.sent ≤ length (world t).sent + most (count t) (line_count (count t) (world t)) ∥₁) (sym (a.played refl))
-          (∥∥₁_map (t.reached f) (λ z. bounded (count t) t.some t.few (world t) z (above_left (count t) (world t) 4294967295 le)));
+          (∥∥₁_map (t.reached f) (λ z. bounded_part (count t) t.some t.few (world t) z (above_left (count t) (world t) 4294967295 le)));
     }
+
+-- it broke off
+pub short_of : (t d : Net) → IsLeft t → Along false (λ n w. settling n w) t d → Short t d
+short_of t d le a = record { left = le; faithful = a.faithful; broken = a.broken refl }
+
+-- and says so
+pub ends_short : (r : Result (Unit {0}) Fault) (t d : Net) → IsErrAnd r (λ e. e ≡ NoMemory) → Short t d → Ends r t d
+ends_short (Ok x) t d q s = absurd q
+ends_short (Err e) t d q s = subst (λ (f : Fault). Ends (Err f) t d) (sym q) s

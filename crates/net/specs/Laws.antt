@@ -2,7 +2,10 @@
 use Rattle.rules.specs.Sound.{KeepsSound}
 use Rattle.promise.specs.Careless.{StirredNeeded}
 use Rattle.play.specs.Promise.{AlwaysSafe}
-use Rattle.play.specs.Exact.{AlwaysSettles, NothingLeft}
+use Rattle.play.specs.History.{AlwaysTruly, AlwaysCalled}
+use Rattle.play.specs.Apart.{PartSafe, ApartSafe, NoMessage}
+use Rattle.play.specs.Exact.{AlwaysSettles, NothingLeft, OnlyCleans}
+use Rattle.play.specs.ExactPart.{AlwaysSettlesPart, BoundedPart, OnlyCleansPart}
 use Rattle.play.specs.Bound.{Bounded, TwoRounds, FewPasses, FewLines}
 use Rattle.play.specs.Cases.{AllCases, GoesOn}
 use Rattle.play.specs.Careless.{CarelessLoses}
@@ -10,8 +13,22 @@ use Rattle.play.specs.Careless.{CarelessLoses}
 pub record Lawful : Type 0 where
   -- over every list of entries and every number of houses: whatever matters is there, and its home has a line for each house that has it
   pub safe : AlwaysSafe
+  -- where two rounds agree, the census was complete just before the call that began the second, among these very entries; and so it was wherever the news is among the messages, however old
+  pub truly : AlwaysTruly
+  pub called : AlwaysCalled
+  -- the same promise where messages are lost for good, and of houses that run apart
+  pub part : PartSafe
+  pub apart : ApartSafe
+  -- bytes that are no message are refused
+  pub garbled : NoMessage
   -- from every world that entries lead to, the collector's own entries leave exactly what matters
   pub settles : AlwaysSettles
+  -- these are all the collector's own
+  pub cleans : OnlyCleans
+  -- the same where messages are lost for good
+  pub settles_part : AlwaysSettlesPart
+  pub cleans_part : OnlyCleansPart
+  pub bounded_part : BoundedPart
   -- they send at most a word of each house to each other, a telling and an answer for each line, and two rounds; and all houses together tell at most once for each house and line, and once more for each house
   pub bounded : Bounded
   pub rounds : TwoRounds

@@ -1,12 +1,13 @@
 ghost use Rattle.std.specs.Prelude.{◌≡◌, ◌<◌, ◌≤◌, true, length};
 ghost use Rattle.store.specs.Sending.{contents};
-ghost use Rattle.play.specs.Play.{Reach};
+ghost use Rattle.play.specs.Apart.{PartOf};
 ghost use Rattle.net.specs.Worlds.{world_of};
 
 use std::alloc::Global;
 use store::Store;
 
-// The houses, and the bytes of every message that was sent, in the order of sending. It is faithful as long as nobody forged a message and none was lost for want of memory.
+/// The houses, and the bytes of the messages that were sent, in the order of sending: all of them, but those for which there was no memory.
+/// It is faithful as long as nothing came to a house but what was sent, or what the house refused.
 #[derive(Drop)]
 pub struct Net {
     pub(crate) heap: Global,
@@ -15,5 +16,5 @@ pub struct Net {
     pub(crate) faithful: bool,
     ghost some: { 0 < length houses.items },
     ghost few: { length houses.items ≤ 16 },
-    ghost reached: { (faithful ≡ true → ∥ Reach (length houses.items) (world_of houses.items (contents sent)) ∥₁) },
+    ghost reached: { (faithful ≡ true → ∥ PartOf (length houses.items) (world_of houses.items (contents sent)) ∥₁) },
 }

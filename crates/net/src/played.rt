@@ -1,5 +1,5 @@
-ghost use Rattle.std.specs.Prelude.{◌≡◌, false, is_ok, if◌then◌else◌};
-ghost use Rattle.net.specs.Nets.{is_lost, had_memory};
+ghost use Rattle.std.specs.Prelude.{◌≡◌, is_ok};
+ghost use Rattle.net.specs.Nets.{had_memory};
 ghost use Rattle.net.specs.declared.played.Setback.TheVariants as setback;
 ghost use Rattle.objects.specs.declared.fault.Fault.TheVariants as fault;
 
@@ -12,7 +12,7 @@ use wire::Refusal;
 pub enum Setback {
     // it changed nothing
     Fault(Fault),
-    // the house did its step, but there was no memory to keep what it sent
+    // the house did its step, but there was no memory to keep what it sent: as if the network had lost it
     Lost,
 }
 
@@ -33,13 +33,6 @@ impl From<Refusal> for Setback {
     fn from(refusal: Refusal) -> Setback {
         Setback::Fault(Fault::Refused(refusal))
     }
-}
-
-// A net stays faithful while nothing that was sent is lost to it.
-pub(crate) fn still(faithful: bool, played: Played) -> bool
-    ensures { result ≡ (if is_lost played then false else faithful) }
-{
-    faithful && played != Err(Setback::Lost)
 }
 
 // A refusal is no reason to break off what many entries do together; want of memory is.

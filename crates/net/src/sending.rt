@@ -1,6 +1,7 @@
-ghost use Rattle.std.specs.Prelude.{◌≡◌, [], ◌++◌, map, is_ok, OnErr, if◌then◌else◌};
+ghost use Rattle.std.specs.Prelude.{◌≡◌, [], ◌++◌, ◌↔◌, map, is_ok, IsTrue, OnErr, if◌then◌else◌};
+ghost use mathlib.Core.List.{Memᴰ};
 ghost use Rattle.node.specs.Shown.{letters};
-ghost use Rattle.store.specs.Sending.{bytes_of, contents};
+ghost use Rattle.store.specs.Sending.{bytes_of, contents, items_in};
 ghost use Rattle.net.specs.Posted.{Posted};
 
 use crate::played::{Played, Setback};
@@ -22,4 +23,16 @@ pub(crate) fn keep(heap: Global, answer: Answer, sent: &mut Vec<Vec<u8>>) -> Pla
 {
     let said = answer?;
     post(heap, &said, sent).map_err(|_| Setback::Lost)
+}
+
+// Whether these are the bytes of one of the messages.
+pub(crate) fn was_sent(sent: &[Vec<u8>], bytes: &[u8]) -> bool
+    ensures { IsTrue result ↔ Memᴰ bytes.now (map items_in sent.now) }
+{
+    for message in sent {
+        if message.as_slice() == bytes {
+            return true;
+        }
+    }
+    false
 }

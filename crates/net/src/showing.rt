@@ -42,7 +42,7 @@ impl Net {
         Some(node::goes_to(read.message))
     }
 
-    // Whether the promise still holds: nobody has forged a message, and none was lost for want of memory.
+    /// Whether the promise holds: nothing came to a house but what was sent, or what the house refused.
     pub fn is_faithful(&self) -> bool
         ensures value { result ≡ faithful self.now }
         ensures promise { Promised self.now }

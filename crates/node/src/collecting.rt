@@ -65,9 +65,7 @@ impl Head {
         ensures { result ≡ all_told (used (house_lent self.now tables.now)) (part_of self.now.standing) }
     {
         let mut names = [Name(0); 2048];
-        let listed = tables
-            .list
-            .objects_in(self.standing.census(), &mut names);
+        let listed = tables.list.objects_in(self.standing.census(), &mut names);
         tables.objects.uses_only(listed, self.standing.told())
     }
 

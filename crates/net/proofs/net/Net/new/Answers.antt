@@ -1,10 +1,14 @@
 use Rattle.std.proofs.Common.{rules, ◌≡◌, ℕ, List, map, vec_items, Vec, refl, ap, ◌∙◌}
 use Rattle.std.specs.declared.alloc.Global.{Global}
 use Rattle.store.specs.Sending.{items_in}
-use Rattle.play.specs.Play.{begin, start}
+use Rattle.play.specs.Play.{begin}
 use Rattle.net.specs.Worlds.{world_of}
 use Rattle.net.specs.Laws.{Lawful}
 use Rattle.play.proofs.Promise.{always_safe}
+use Rattle.play.proofs.History.{always_truly, always_called}
+use Rattle.play.proofs.Apart.{part_begin, part_safe, apart_safe, no_message}
+use Rattle.play.proofs.FairPump.{only_cleans}
+use Rattle.play.proofs.ExactPart.{settles_part, cleans_part, bounded_part}
 use Rattle.play.proofs.Exactness.{always_settles, always_left}
 use Rattle.play.proofs.Bounds.{bounded, few_passes, few_lines}
 use Rattle.play.proofs.BoundCalls.{two_rounds}
@@ -19,7 +23,16 @@ lawful : Lawful
 lawful =
     record {
       safe = always_safe;
+      truly = always_truly;
+      called = always_called;
+      part = part_safe;
+      apart = apart_safe;
+      garbled = no_message;
       settles = always_settles;
+      cleans = only_cleans;
+      settles_part = settles_part;
+      cleans_part = cleans_part;
+      bounded_part = bounded_part;
       bounded = bounded;
       rounds = two_rounds;
       passes = few_passes;
@@ -38,7 +51,7 @@ begins c = ap (λ (xs : List (Vec ℕ Global)). world_of (vec_items c.in_ok-hous
 pub invariant_of-result : goal.invariant_of-result
 invariant_of-result c =
     let e = row_count c.args.count (vec_items c.in_ok-houses.houses) c.in_ok-houses.ensures in
-    record { some = search (e, rules); few = search (e, rules); reached = λ _. rw (e, begins c) (∣ start ∣₁) }
+    record { some = search (e, rules); few = search (e, rules); reached = λ _. rw (e, begins c) (∣ part_begin c.args.count ∣₁) }
 
 pub returns-clause-begun : goal.returns-clause-begun
 returns-clause-begun c = record { count = row_count c.args.count (vec_items c.in_ok-houses.houses) c.in_ok-houses.ensures; world = begins c.before; faithful = refl }

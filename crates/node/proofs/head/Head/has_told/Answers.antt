@@ -1,4 +1,4 @@
-use Rattle.std.proofs.Common.{◌≡◌, List, ℕ, sym, ap, ◌∙◌}
+use Rattle.std.proofs.Common.{List, ℕ, ap, ◌∙◌}
 use Rattle.std.specs.List.{list_all}
 use Rattle.tables.specs.Model.{is_in}
 use Rattle.tables.specs.Shown.{numbers}

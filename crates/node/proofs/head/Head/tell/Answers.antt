@@ -2,8 +2,6 @@ use Rattle.std.proofs.Common.{◌≡◌, ℕ, true, false, rules, vec_items, is_
 use Rattle.std.proofs.lemmas.Bool.{or_left, false≢true}
 use Rattle.wire.specs.Names.{house}
 use Rattle.tables.specs.Shown.{numbers}
-use Rattle.objects.specs.Calls.{heap_of}
-use Rattle.objects.specs.Executed.{names_in_use}
 use Rattle.census.specs.Model.{calm, due_of, telling}
 use Rattle.census.specs.Standings.{part_of}
 use Rattle.rules.specs.House.{with_part}
@@ -40,6 +38,6 @@ returns c =
     let told : part_of c.tell-standing.result.0 ≡ telling (numbers c.deref.result.now) p = c.tell-standing.ensures.after ∙ rw went in
     record {
       step = tell_step h c.census-census.result c.args.tables.now.list.now.home (numbers (vec_items c.in-Ok-due.names)) (part_of c.tell-standing.result.0)
-      (ap (λ (k : ℕ). record { 0 = k }) c.census-census.ensures) (ap house c.args.tables.now.tied.home) (due ∙ ap (λ us. due_of us p) all) (told ∙ ap (λ us. telling us p) all);
+          (ap (λ (k : ℕ). record { 0 = k }) c.census-census.ensures) (ap house c.args.tables.now.tied.home) (due ∙ ap (λ us. due_of us p) all) (told ∙ ap (λ us. telling us p) all);
       lent = search rules;
     }
