@@ -1,3 +1,4 @@
 pub mod Stores
 pub mod Events
 pub mod Sending
+pub mod Laws

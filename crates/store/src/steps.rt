@@ -4,6 +4,7 @@ ghost use Rattle.rules.specs.House.{empty};
 ghost use Rattle.rules.specs.Step.{came, event_of};
 ghost use Rattle.node.specs.Shown.{Answers};
 ghost use Rattle.store.specs.Events.{event_in};
+ghost use Rattle.store.specs.Laws.{Lawful};
 ghost use Rattle.store.specs.Stores.{house_in};
 
 use crate::event::Event;
@@ -15,10 +16,12 @@ use std::alloc::Global;
 use wire::{Call, House};
 
 impl Store {
-    // House `home` of `houses`, with nothing in it.
+    /// House `home` of `houses`, with nothing in it. Refused by 1 where there is no such house among at most sixteen; else memory may be wanting.
+    /// What is promised of houses that run apart stands here: each is made by this, and then does nothing but `call` and `got`.
     #[tactic(auto, unfolding(lines::specs::Columns::rows))]
     pub fn new(heap: Global, home: House, houses: u8) -> Result<Store, Fault>
-        ensures { MatchResult result (λ s. house_in s ≡ empty home.0 houses) (λ e. Unmade home.0 houses e) }
+        ensures made { MatchResult result (λ s. house_in s ≡ empty home.0 houses) (λ e. Unmade home.0 houses e) }
+        ensures lawful { Lawful }
     {
         let objects = Objects::new(heap, home, houses)?;
         Ok(Store {
