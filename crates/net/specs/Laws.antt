@@ -9,6 +9,7 @@ use Rattle.play.specs.ExactPart.{AlwaysSettlesPart, BoundedPart, OnlyCleansPart}
 use Rattle.play.specs.Bound.{Bounded, TwoRounds, FewPasses, FewLines}
 use Rattle.play.specs.Cases.{AllCases, GoesOn}
 use Rattle.play.specs.Careless.{CarelessLoses}
+use Rattle.ends.specs.Lawful as ends
 
 pub record Lawful : Type 0 where
   -- over every list of entries and every number of houses: whatever matters is there, and its home has a line for each house that has it
@@ -45,3 +46,5 @@ pub record Lawful : Type 0 where
   pub needed : StirredNeeded
   -- and by the executable step: houses that forget that they took something lose it, by entries that lose nothing where they remember it
   pub forgetful : CarelessLoses
+  -- of runs without end, where messages are lost but not all of them: a census that goes on is called complete, and with programs still what is left is exactly what matters
+  pub ends : ends.Lawful

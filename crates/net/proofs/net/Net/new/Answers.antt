@@ -16,6 +16,7 @@ use Rattle.play.proofs.Cases.{all_cases, goes_on}
 use Rattle.play.proofs.Careless.{careless_loses}
 use Rattle.rules.proofs.Sound.{sound_step}
 use Rattle.promise.proofs.Needed.{stirred_needed}
+use Rattle.ends.proofs.Laws.{lawful as endless}
 use Rattle.net.proofs.Rows.{row_count, row_begins}
 use Rattle.net.proofs.net.Net.new.Goals as goal
 
@@ -43,6 +44,7 @@ lawful =
       sound = sound_step;
       needed = stirred_needed;
       forgetful = careless_loses;
+      ends = endless;
     }
 
 begins : (c : goal.After-new-2) → world_of (vec_items c.in_ok-houses.houses) (map items_in (vec_items c.new-2.result)) ≡ begin c.args.count
