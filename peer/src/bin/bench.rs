@@ -4,6 +4,7 @@
 //! lines of the first rehearsal.
 
 use peer::call::Input;
+use peer::form::Form;
 use peer::generator::{Flood, Script};
 use peer::house::House;
 use peer::house_lines::play;
@@ -128,7 +129,7 @@ fn each(messages: &[Vec<u8>], times: u32, mut one: impl FnMut(&[u8]) -> u64) -> 
 /// A house that was told these lines, and how many it refused.
 fn told(lines: &[String]) -> (House, u64) {
     let mut house = House::new(ME, HOUSES);
-    let refused = lines.iter().filter(|line| play(&mut house, line.as_bytes()).starts_with("no")).count();
+    let refused = lines.iter().filter(|line| play(&mut house, line.as_bytes(), Form::Plain).starts_with("no")).count();
     (house, refused as u64)
 }
 
