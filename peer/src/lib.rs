@@ -26,6 +26,7 @@ pub mod refusal;
 pub mod settle;
 pub mod shrink;
 pub mod stats;
+pub mod streams;
 pub mod text;
 pub mod view;
 pub mod workloads;

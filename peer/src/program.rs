@@ -1,6 +1,7 @@
 //! What both programs do with their arguments, with standard input and standard output.
 
 use crate::form::Form;
+use crate::streams;
 use crate::text;
 use std::fmt::Display;
 use std::io::{self, BufRead, IsTerminal, Write};
@@ -62,6 +63,7 @@ pub fn play(prompts: bool, answer: impl FnMut(&[u8]) -> String) -> ExitCode {
 }
 
 fn lines(prompt: &str, mut answer: impl FnMut(&[u8]) -> String) -> io::Result<()> {
+    streams::was_open(0)?;
     let (mut input, mut output) = (io::stdin().lock(), io::stdout().lock());
     let mut line = Vec::new();
     loop {
@@ -76,6 +78,10 @@ fn lines(prompt: &str, mut answer: impl FnMut(&[u8]) -> String) -> io::Result<()
 }
 
 fn write(output: &mut impl Write, text: &str) -> io::Result<()> {
+    if text.is_empty() {
+        return Ok(());
+    }
+    streams::was_open(1)?;
     output.write_all(text.as_bytes())?;
     output.flush()
 }

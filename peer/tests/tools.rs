@@ -44,7 +44,9 @@ fn a_forged_message_ends_the_check() {
 #[test]
 fn a_script_is_made_smaller_and_its_deliveries_get_new_numbers() {
     let long = lines(2, "0 make 1\n0 make 2\n0 ask 32 1\n0 ask 16 1\ndeliver 1\ndeliver 2\nshow");
-    let small = shrink(&long, |script| String::from_utf8_lossy(&rehearsed(script, Form::Plain)).contains("02000000100100000001"));
+    let small = shrink(&long, |script| {
+        String::from_utf8_lossy(&rehearsed(script, Form::Plain)).contains("02000000100100000001")
+    });
     assert_eq!(small, lines(2, "0 make 1\n0 ask 16 1\ndeliver 1"));
 }
 

@@ -171,7 +171,8 @@ fn print_rehearsal(what: &str, script: &Script) {
     let file = std::env::temp_dir().join(format!("rehearsal-{}", std::process::id()));
     std::fs::write(&file, script.text()).expect("the script can be written");
     let path = file.to_str().expect("a path in plain text");
-    let program = |side| if side == Side::Rattle { "crates/rehearse/out/rehearse" } else { "peer/target/release/peer-rehearse" };
+    let program =
+        |side| if side == Side::Rattle { "crates/rehearse/out/rehearse" } else { "peer/target/release/peer-rehearse" };
     let what = format!("the program `rehearse`, four houses, {} lines, {what}", script.lines.len());
     print_row(&what, best(|side| rehearsal_time(program(side), path)));
     let _ = std::fs::remove_file(&file);
