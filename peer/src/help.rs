@@ -45,7 +45,7 @@ options, in any place
 lines, each with an example
   H CALL       the call at house H                                      0 make 1
   H got HEX    bytes come to house H, whoever wrote them                0 got 01000000100001
-  H deliver M  message M comes to house H                               1 deliver 2
+  H deliver M  message M comes to house H                               1 deliver 1
   deliver M    message M comes to whom it is for                        deliver 1
   settle       the collector frees all that does not matter             settle
   show         prints the objects, the roots and the lists              show
