@@ -1,11 +1,10 @@
 -- What is shown of a house.
-use Rattle.std.specs.Prelude.{ℕ, ◌==◌, cond, length, Option, Some, None, Ok, Err}
+use Rattle.std.specs.Prelude.{◌==◌, cond, length, Option, Some, None, Ok, Err}
 use Rattle.wire.specs.declared.message.Message.{Message}
 use Rattle.wire.specs.declared.message.Message.TheVariants as message
 use Rattle.wire.specs.declared.names.Census.{Census}
 use Rattle.wire.specs.declared.names.RoundNumber.{RoundNumber}
 use Rattle.wire.specs.declared.names.House as declared
-use Rattle.node.specs.declared.sent.Sent.{Sent}
 use Rattle.node.specs.declared.sent.Sent.TheVariants.{Nothing, One, Word, Tellings}
 use Rattle.node.specs.Shown.{Answer}
 use Rattle.rules.specs.House.{House, census}

@@ -28,11 +28,7 @@ fn write_refused(form: Form, refusal: Refusal, out: &mut String) -> Result<(), A
 }
 
 /// Prints what ends the answer to a line: the refusal, if there was one.
-pub fn write_end(
-    form: Form,
-    ended: Result<(), Refusal>,
-    out: &mut String,
-) -> Result<(), AllocError>
+pub fn write_end(form: Form, ended: Result<(), Refusal>, out: &mut String) -> Result<(), AllocError>
     ensures { OnOk result (string_bytes out.new ≡ string_bytes out.old ++ end_text form ended) }
 {
     match ended {
@@ -65,12 +61,7 @@ fn write_sends(houses: u8, bytes: &[u8], out: &mut String) -> Result<(), AllocEr
     }
 }
 
-fn write_message(
-    form: Form,
-    houses: u8,
-    bytes: &[u8],
-    out: &mut String,
-) -> Result<(), AllocError>
+fn write_message(form: Form, houses: u8, bytes: &[u8], out: &mut String) -> Result<(), AllocError>
     ensures { OnOk result (string_bytes out.new ≡ string_bytes out.old ++ message_text form houses bytes.now) }
 {
     match form {

@@ -26,10 +26,7 @@ pub fn follow(heap: Global, store: &mut Store, order: Order<'_>) -> Result<Answe
 }
 
 /// The messages that a house answered with, or its refusal.
-pub fn messages(
-    heap: Global,
-    answer: &Answer,
-) -> anyhow::Result<Result<Vec<Vec<u8>>, Refusal>>
+pub fn messages(heap: Global, answer: &Answer) -> anyhow::Result<Result<Vec<Vec<u8>>, Refusal>>
     ensures { IfOk result (λ r. Sends answer.now r) }
 {
     match answer {

@@ -1,6 +1,7 @@
 // What the program says of itself.
 
-pub const USAGE: &str = "usage: house [--names] [--framed] I N   (house I of N, with N from 1 to 16 and I below N; calls on standard input; --help says more)";
+pub const USAGE: &str =
+    "usage: house [--names] [--framed] I N   (house I of N, with N from 1 to 16 and I below N; calls on standard input; --help says more)";
 
 pub const HELP: &str = "house I N plays house I of N, with N from 1 to 16 and I below N.
 It reads calls and messages that came, a line each, and prints what it sends.

@@ -1,8 +1,10 @@
 // What the program says of itself.
 
-pub const USAGE: &str = "usage: rehearse [--names] N   (N houses, from 1 to 4; calls and deliveries on standard input; --help says more)";
+pub const USAGE: &str =
+    "usage: rehearse [--names] N   (N houses, from 1 to 4; calls and deliveries on standard input; --help says more)";
 
-pub const HELP: &str = "rehearse N plays N houses, from 1 to 4, with its input as the network between them.
+pub const HELP: &str =
+    "rehearse N plays N houses, from 1 to 4, with its input as the network between them.
 It keeps each message that is sent, and prints it after its number, counted from 1.
 
 options, in any place

@@ -31,6 +31,9 @@ pub fn write_status(status: Status, out: &mut String) -> Result<(), AllocError>
         roots,
         lines,
     } = status;
-    write!(out, "house {house} census {census} tally {tally} round {round}")?;
+    write!(
+        out,
+        "house {house} census {census} tally {tally} round {round}"
+    )?;
     writeln!(out, " objects {objects} roots {roots} lines {lines}")
 }
