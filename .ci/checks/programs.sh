@@ -188,16 +188,16 @@ many_references() {
 
 try "house is built" builds_program house 0 1
 try "rehearse is built" builds_program rehearse 1
-for arguments in '' '0' '0 0' '1 1' '0 17' 'a 2' '0 1 2' '-1 2' '0 x 1' '256 1' '0 257'; do
+for arguments in '' '0' '0 0' '1 1' '0 17' 'a 2' '0 1 2' '-1 2' '0 x 1' '256 1' '0 257' '--names=x 0 2' '--bogus 0 2' '-- 0 2' '-h' '--names' '--framed 0 2 1' '--Framed 0 2'; do
     # the words of the arguments are meant to be split
     # shellcheck disable=SC2086
     try "house refuses '$arguments'" refuses_arguments "$HOUSE" $arguments
 done
-for arguments in '' '0' '5' 'x' '2 2' 'x 2' '2 x' '257'; do
+for arguments in '' '0' '5' 'x' '2 2' 'x 2' '2 x' '257' '--names=x 1' '--framed 1' '--framed --names 1' '-h' '--names'; do
     # shellcheck disable=SC2086
     try "rehearse refuses '$arguments'" refuses_arguments "$REHEARSE" $arguments
 done
-try "house refuses an argument that is no text" refuses_arguments "$HOUSE" $'\377' 2
+try "house refuses an argument that is no text" refuses_arguments "$HOUSE" $'\377' 2 --help
 try "rehearse refuses an argument that is no text" refuses_arguments "$REHEARSE" $'2\200'
 try "lines of a megabyte" megabyte_of_digits
 try "bytes that are no text" garbled_bytes

@@ -57,7 +57,7 @@ breaks_off_at_a_round() {
     [ "$hits" -gt 0 ]
 }
 
-for limit in 2700 4000 8000 16000; do
+for limit in 3000 4000 8000 16000; do
     try "rehearse with $limit KiB of memory" breaks_off "$limit" rehearsal rehearsed "$REHEARSE" 2
 done
 for limit in 4000 8000; do

@@ -107,7 +107,7 @@ impl Run {
 fn is_collectors(net: &Net, played: &Played) -> bool {
     let programs = |message: &Message| matches!(message, Message::Ask { .. } | Message::Give { .. });
     match &played.event {
-        None | Some(Event::Show | Event::Settle) => true,
+        None | Some(Event::View(_) | Event::Settle) => true,
         Some(Event::Deliver(_, number)) => !net.message(*number).is_some_and(programs),
         Some(Event::At(_, Input::Got(bytes))) => !Message::decode(bytes, net.count()).as_ref().is_some_and(programs),
         Some(Event::At(_, input)) => {

@@ -1,5 +1,6 @@
 //! Another program, run on the same lines as the model.
 
+use crate::form::Form;
 use crate::generator::Script;
 use crate::house_lines::{house_output, HouseLines};
 use crate::net::Net;
@@ -29,22 +30,30 @@ pub enum Other {
 
 impl Other {
     /// Where the other program's output for a script first differs from the model's.
-    pub fn difference(&self, script: &Script) -> Option<Difference> {
+    pub fn difference(&self, script: &Script, form: Form) -> Option<Difference> {
         match self {
             Other::Rehearse(path) => {
-                let arguments = [script.houses.to_string()];
-                first_difference(&rehearsed(script), &run(path, &arguments, script.text()))
+                let arguments = [form.options(), vec![script.houses.to_string()]].concat();
+                first_difference(&rehearsed(script, form), &run(path, &arguments, script.text()))
             }
             Other::House(path) => (0..script.houses).find_map(|me| {
                 let lines = HouseLines::of(script, me);
-                let arguments = [me.to_string(), script.houses.to_string()];
-                first_difference(&house_output(me, script.houses, &lines), &run(path, &arguments, lines.text()))
+                let arguments = [form.options(), vec![me.to_string(), script.houses.to_string()]].concat();
+                first_difference(&house_output(me, script.houses, &lines, form), &run(path, &arguments, lines.text()))
             }),
         }
     }
 }
 
 impl Other {
+    /// The forms that the program prints in.
+    pub fn forms(&self) -> &'static [Form] {
+        match self {
+            Other::Rehearse(_) => &[Form::Plain, Form::Named],
+            Other::House(_) => &[Form::Plain, Form::Named, Form::Framed],
+        }
+    }
+
     /// How many runs of the program a script asks for.
     pub fn runs(&self, script: &Script) -> u64 {
         match self {
@@ -55,9 +64,9 @@ impl Other {
 }
 
 /// What the model prints for a script.
-pub fn rehearsed(script: &Script) -> Vec<u8> {
+pub fn rehearsed(script: &Script, form: Form) -> Vec<u8> {
     let mut net = Net::new(script.houses);
-    script.lines.iter().flat_map(|line| net.play(line).output.into_bytes()).collect()
+    script.lines.iter().flat_map(|line| net.play(line).output(form).into_bytes()).collect()
 }
 
 /// Where two outputs first differ.

@@ -7,7 +7,9 @@ pub mod call;
 pub mod check;
 pub mod compare;
 pub mod explore;
+pub mod form;
 pub mod generator;
+pub mod help;
 pub mod house;
 pub mod house_lines;
 #[cfg(feature = "measures")]
@@ -15,6 +17,7 @@ pub mod measures;
 pub mod message;
 pub mod names;
 pub mod net;
+pub mod program;
 pub mod promise;
 pub mod random;
 #[cfg(feature = "rattle")]
@@ -23,5 +26,7 @@ pub mod refusal;
 pub mod settle;
 pub mod shrink;
 pub mod stats;
+pub mod streams;
 pub mod text;
+pub mod view;
 pub mod workloads;

@@ -1,13 +1,15 @@
 //! Several houses in one process, and all that was ever sent between them.
 
 use crate::call::Input;
+use crate::form::Form;
+use crate::help;
 use crate::house::{Answer, House};
 use crate::message::{Message, Recipient};
 use crate::names::HouseId;
 use crate::refusal::Refusal;
 use crate::settle::settle;
 use crate::text;
-use std::fmt::Write;
+use crate::view::{self, View};
 
 /// What one line of a rehearsal says.
 #[derive(Clone, Debug, PartialEq, Eq)]
@@ -15,7 +17,7 @@ pub enum Event {
     At(HouseId, Input),
     /// The message with this number comes to one house, or to those that it is for.
     Deliver(Option<HouseId>, u64),
-    Show,
+    View(View),
     /// The collector frees all that does not matter.
     Settle,
 }
@@ -29,7 +31,16 @@ pub struct Played {
     /// What the line says, if it says anything.
     pub event: Option<Event>,
     pub outcomes: Vec<Outcome>,
-    pub output: String,
+    /// What it asks to be printed, if it does.
+    pub shown: String,
+}
+
+impl Played {
+    /// What is printed for the line.
+    pub fn output(&self, form: Form) -> String {
+        let outcomes = self.outcomes.iter().map(|outcome| print(outcome, form));
+        std::iter::once(self.shown.clone()).chain(outcomes).collect()
+    }
 }
 
 #[derive(Clone, Debug)]
@@ -49,8 +60,10 @@ impl Event {
     }
 
     fn read(words: &[&[u8]], houses: u8) -> Result<Event, Refusal> {
+        if let Some(view) = View::parse(words) {
+            return Ok(Event::View(view));
+        }
         match words {
-            [b"show"] => return Ok(Event::Show),
             [b"settle"] => return Ok(Event::Settle),
             [b"deliver", number] => return Event::deliver(None, number),
             _ => {}
@@ -100,7 +113,7 @@ impl Net {
     /// Does what an event says; one outcome for each house that it reaches.
     pub fn perform(&mut self, event: &Event) -> Vec<Outcome> {
         match event {
-            Event::Show => Vec::new(),
+            Event::View(_) => Vec::new(),
             Event::Settle => vec![self.settle()],
             Event::At(house, input) => {
                 let answer = self.house_mut(*house).perform(input);
@@ -156,22 +169,24 @@ impl Net {
                 (Some(event), outcomes)
             }
         };
-        let output = match event {
-            Some(Event::Show) => self.show(),
-            _ => outcomes.iter().map(print).collect(),
+        let shown = match event {
+            Some(Event::View(View::Show)) => self.show(),
+            Some(Event::View(View::Status)) => self.houses.iter().map(view::status).collect(),
+            Some(Event::View(View::Help)) => help::REHEARSE.to_string(),
+            _ => String::new(),
         };
-        Played { event, outcomes, output }
+        Played { event, outcomes, shown }
     }
 
     /// All houses as text.
     pub fn show(&self) -> String {
-        self.houses.iter().map(show_house).collect()
+        self.houses.iter().map(view::show).collect()
     }
 }
 
-fn print(outcome: &Outcome) -> String {
+fn print(outcome: &Outcome, form: Form) -> String {
     match outcome {
-        Err(refusal) => format!("no {}\n", refusal.number()),
+        Err(refusal) => form.refusal(*refusal),
         Ok(sent) => {
             let line = |(number, message): &(usize, Message)| {
                 format!("{number} {}\n", text::to_hexadecimal(&message.encode()))
@@ -179,19 +194,4 @@ fn print(outcome: &Outcome) -> String {
             sent.iter().map(line).collect()
         }
     }
-}
-
-fn show_house(house: &House) -> String {
-    let mut out = format!("house {} census {}\n", house.me, house.census);
-    for (name, fields) in &house.objects {
-        let fields: String = fields.iter().map(|field| format!(" {field}")).collect();
-        let _ = writeln!(out, "object {name}{fields}");
-    }
-    for root in &house.roots {
-        let _ = writeln!(out, "root {root}");
-    }
-    for (object, holder, line) in house.lines_by_age() {
-        let _ = writeln!(out, "line {object} {holder} {} {}", line.stamp, line.census);
-    }
-    out
 }

@@ -2,7 +2,8 @@
 
 use crate::house::{House, MOST_LINES, MOST_OBJECTS, MOST_ROOTS};
 use crate::message::Message;
-use crate::net::{Net, Played};
+use crate::net::{Event, Net, Played};
+use crate::view::View;
 use std::fmt;
 
 #[derive(Clone, Debug, Default, PartialEq, Eq)]
@@ -19,6 +20,30 @@ pub struct Stats {
     /// How often each number of refusal was given.
     pub refused: [u64; 12],
     pub full: Full,
+    pub views: Views,
+}
+
+/// How often something was asked to be printed.
+#[derive(Clone, Debug, Default, PartialEq, Eq)]
+pub struct Views {
+    pub show: u64,
+    pub status: u64,
+    pub help: u64,
+    /// A status of a house that has come to a round.
+    pub in_a_round: u64,
+}
+
+impl Views {
+    fn note(&mut self, view: View, net: &Net) {
+        match view {
+            View::Show => self.show += 1,
+            View::Help => self.help += 1,
+            View::Status => {
+                self.status += 1;
+                self.in_a_round += u64::from(net.houses.iter().any(|house| !house.survey.rounds.is_empty()));
+            }
+        }
+    }
 }
 
 /// How many lines were played while some house had a full table.
@@ -46,6 +71,9 @@ impl Stats {
         let (lines_left, objects_left) = sizes(net);
         self.lines += 1;
         self.full.note(net);
+        if let Some(Event::View(view)) = played.event {
+            self.views.note(view, net);
+        }
         self.freed += objects.saturating_sub(objects_left);
         if delivers_complete(net, &played) {
             self.swept += lines - lines_left;
@@ -77,6 +105,10 @@ impl Stats {
             ("256 roots", self.full.roots),
             ("1024 objects", self.full.objects),
             ("2048 lines", self.full.lines),
+            ("a line show", self.views.show),
+            ("a line status", self.views.status),
+            ("a line help", self.views.help),
+            ("a status in a round", self.views.in_a_round),
         ];
         met.into_iter().filter(|(_, count)| *count == 0).map(|(name, _)| name).collect()
     }
@@ -90,7 +122,6 @@ fn sizes(net: &Net) -> (u64, u64) {
 
 fn delivers_complete(net: &Net, played: &Played) -> bool {
     use crate::call::Input;
-    use crate::net::Event;
     match &played.event {
         Some(Event::Deliver(_, number)) => matches!(net.message(*number), Some(Message::Complete { .. })),
         Some(Event::At(_, Input::Got(bytes))) => bytes.first() == Some(&8),
@@ -103,7 +134,9 @@ impl fmt::Display for Stats {
         write!(out, "scripts {} lines {} messages {}", self.scripts, self.lines, self.sent)?;
         write!(out, " completed {} swept {} freed {}", self.completed, self.swept, self.freed)?;
         let Full { roots, objects, lines } = &self.full;
-        write!(out, " full: roots {roots} objects {objects} lines {lines}; numbers")?;
+        write!(out, " full: roots {roots} objects {objects} lines {lines};")?;
+        let Views { show, status, help, in_a_round } = &self.views;
+        write!(out, " shown: show {show} status {status} (in a round {in_a_round}) help {help}; numbers")?;
         (1..=11).try_for_each(|number| write!(out, " {number}:{}", self.refused[number]))
     }
 }

@@ -3,6 +3,7 @@
 mod dialogue;
 
 use dialogue::rehearse;
+use peer::form::Form;
 use peer::net::Net;
 use peer::text;
 
@@ -41,7 +42,7 @@ fn lines_that_are_passed_over_and_spaces() {
         (b"show", "house 0 census 0\nobject 16\nroot 16\n"),
     ];
     for (line, printed) in told {
-        assert_eq!(net.play(line).output, printed, "{line:?}");
+        assert_eq!(net.play(line).output(Form::Plain), printed, "{line:?}");
     }
 }
 

@@ -3,6 +3,7 @@
 mod dialogue;
 
 use dialogue::rehearse;
+use peer::form::Form;
 use peer::net::Net;
 
 const WRONG_CALLS: &str = "
@@ -207,7 +208,7 @@ fn censuses_and_counters() {
 fn full_tables() {
     let mut net = Net::new(1);
     for number in 1..=256 {
-        assert_eq!(net.play(format!("0 make {number}").as_bytes()).output, "");
+        assert_eq!(net.play(format!("0 make {number}").as_bytes()).output(Form::Plain), "");
     }
     let told = [
         ("0 make 257", "no 9\n"),
@@ -223,24 +224,24 @@ fn full_tables() {
         ("0 load 16 32", ""),
     ];
     for (line, printed) in told {
-        assert_eq!(net.play(line.as_bytes()).output, printed, "{line}");
+        assert_eq!(net.play(line.as_bytes()).output(Form::Plain), printed, "{line}");
     }
     for place in 1..8 {
-        assert_eq!(net.play(b"0 link 16 16").output, "", "field {place}");
+        assert_eq!(net.play(b"0 link 16 16").output(Form::Plain), "", "field {place}");
     }
-    assert_eq!(net.play(b"0 link 16 16").output, "no 9\n");
+    assert_eq!(net.play(b"0 link 16 16").output(Form::Plain), "no 9\n");
 }
 
 #[test]
 fn a_thousand_and_twenty_four_objects() {
     let mut net = Net::new(1);
     for number in 1..=1024u32 {
-        assert_eq!(net.play(format!("0 make {number}").as_bytes()).output, "");
-        assert_eq!(net.play(format!("0 drop {}", number * 16).as_bytes()).output, "");
+        assert_eq!(net.play(format!("0 make {number}").as_bytes()).output(Form::Plain), "");
+        assert_eq!(net.play(format!("0 drop {}", number * 16).as_bytes()).output(Form::Plain), "");
     }
-    assert_eq!(net.play(b"0 make 1025").output, "no 9\n");
-    assert_eq!(net.play(b"0 collect").output, "");
-    assert_eq!(net.play(b"0 make 1025").output, "");
+    assert_eq!(net.play(b"0 make 1025").output(Form::Plain), "no 9\n");
+    assert_eq!(net.play(b"0 collect").output(Form::Plain), "");
+    assert_eq!(net.play(b"0 make 1025").output(Form::Plain), "");
 }
 
 #[test]
@@ -270,6 +271,6 @@ fn two_thousand_and_forty_eight_lines() {
         ("deliver 4097", "4100 02000000100300000001\n"),
     ];
     for (line, printed) in told {
-        assert_eq!(net.play(line.as_bytes()).output, printed, "{line}");
+        assert_eq!(net.play(line.as_bytes()).output(Form::Plain), printed, "{line}");
     }
 }

@@ -5,6 +5,7 @@ use peer::call::Input;
 use peer::check::check;
 use peer::compare::{first_difference, rehearsed};
 use peer::explore::{explore, SETTINGS};
+use peer::form::Form;
 use peer::generator::{flooded_script, script, Flood, Script};
 use peer::house::{House, MOST_LINES, MOST_OBJECTS};
 use peer::house_lines;
@@ -43,7 +44,9 @@ fn a_forged_message_ends_the_check() {
 #[test]
 fn a_script_is_made_smaller_and_its_deliveries_get_new_numbers() {
     let long = lines(2, "0 make 1\n0 make 2\n0 ask 32 1\n0 ask 16 1\ndeliver 1\ndeliver 2\nshow");
-    let small = shrink(&long, |script| String::from_utf8_lossy(&rehearsed(script)).contains("02000000100100000001"));
+    let small = shrink(&long, |script| {
+        String::from_utf8_lossy(&rehearsed(script, Form::Plain)).contains("02000000100100000001")
+    });
     assert_eq!(small, lines(2, "0 make 1\n0 ask 16 1\ndeliver 1"));
 }
 
@@ -90,7 +93,7 @@ fn strings_around_a_message_are_each_beginning_and_each_other_byte() {
 fn told(lines: &[String]) -> House {
     let mut house = House::new(ME, HOUSES);
     for line in lines {
-        assert!(!house_lines::play(&mut house, line.as_bytes()).starts_with("no"), "{line}");
+        assert!(!house_lines::play(&mut house, line.as_bytes(), Form::Plain).starts_with("no"), "{line}");
     }
     house
 }

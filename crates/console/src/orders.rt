@@ -1,8 +1,7 @@
-ghost use Rattle.std.specs.Prelude.{◌≡◌, true, string_bytes, IfOk, OnErr};
+ghost use Rattle.std.specs.Prelude.{◌≡◌, true, IfOk, OnErr};
 ghost use Rattle.text.specs.Lines.{said};
-ghost use Rattle.store.specs.Sending.{contents};
 ghost use Rattle.store.specs.Stores.{house_in};
-ghost use Rattle.console.specs.Orders.{event_in, spells, Follows, Shows};
+ghost use Rattle.console.specs.Orders.{event_in, spells, Follows, Sends};
 
 use node::Answer;
 use objects::Fault;
@@ -26,16 +25,13 @@ pub fn follow(heap: Global, store: &mut Store, order: Order<'_>) -> Result<Answe
     }
 }
 
-// The messages that a house answered with. Where it refused there are none, and `out` says which refusal it was.
-pub fn messages(heap: Global, answer: Answer, out: &mut String) -> anyhow::Result<Vec<Vec<u8>>>
-    ensures { IfOk result (λ v. Shows answer (contents v) (string_bytes out.old) (string_bytes out.new)) }
+/// The messages that a house answered with, or its refusal.
+pub fn messages(heap: Global, answer: &Answer) -> anyhow::Result<Result<Vec<Vec<u8>>, Refusal>>
+    ensures { IfOk result (λ r. Sends answer.now r) }
 {
     match answer {
-        Ok(sent) => Ok(store::messages(heap, &sent)?),
-        Err(Fault::Refused(refusal)) => {
-            text::write_refusal(refusal, out)?;
-            Ok(Vec::new(heap))
-        }
+        Ok(sent) => Ok(Ok(store::messages(heap, sent)?)),
+        Err(Fault::Refused(refusal)) => Ok(Err(*refusal)),
         Err(Fault::NoMemory) => Err(AllocError.into()),
     }
 }

@@ -2,64 +2,112 @@
 
 #![tactic(auto)]
 
-use console::Player;
+mod help;
+
+use console::{Form, Player, Wanted};
+use help::{HELP, USAGE};
 use objects::Fault;
 use std::alloc::{AllocError, Global};
 use std::process::ExitCode;
 use store::Store;
-use wire::House;
+use text::{Order, Request, View};
+use wire::{Census, House, Refusal, RoundNumber};
 
-const USAGE: &str =
-    "usage: house I N   (house I of N, with N from 1 to 16 and I below N; calls on standard input)";
-
+// The house, which of how many it is, and how it prints.
 #[derive(Drop)]
 struct Own {
     heap: Global,
+    form: Form,
+    house: House,
+    houses: u8,
     store: Store,
+    // the round that it asked last, after its census
+    asked: Option<(Census, RoundNumber)>,
 }
 
-// What is sent is printed, a message a line, or else why nothing was done.
-impl Player for Own {
-    fn answer(&mut self, line: &[u8], out: &mut String) -> anyhow::Result<()> {
-        match text::read_line(line) {
-            Ok(None) => {}
-            Ok(Some(order)) => {
-                let answer = console::follow(self.heap, &mut self.store, order)?;
-                for bytes in console::messages(self.heap, answer, out)? {
-                    text::write_hex(&bytes, out)?;
-                    out.push('\n')?;
-                }
-            }
-            Err(refusal) => text::write_refusal(refusal, out)?,
+impl Own {
+    // An order is followed, and what is sent is printed.
+    fn follow(&mut self, order: Order, out: &mut String) -> anyhow::Result<Result<(), Refusal>> {
+        let answer = console::follow(self.heap, &mut self.store, order)?;
+        if let Some(round) = console::round_asked(&answer) {
+            self.asked = Some(round);
         }
-        Ok(())
+        match console::messages(self.heap, &answer)? {
+            Ok(messages) => {
+                console::write_sent(self.form, self.houses, &messages, out)?;
+                Ok(Ok(()))
+            }
+            Err(refusal) => Ok(Err(refusal)),
+        }
+    }
+
+    fn view(&self, view: View, out: &mut String) -> Result<(), AllocError> {
+        match view {
+            View::Show => console::write_tables(self.house, &self.store, out),
+            View::Status => {
+                let round = console::present_round(self.asked, self.store.census());
+                text::write_status(console::status(self.house, &self.store, round), out)
+            }
+            View::Help => out.push_str(HELP),
+        }
+    }
+
+    // What a line says is done; how it ended is not printed yet.
+    fn play(&mut self, line: &[u8], out: &mut String) -> anyhow::Result<Result<(), Refusal>> {
+        match text::read_line(line) {
+            Ok(None) => Ok(Ok(())),
+            Ok(Some(Request::Order(order))) => self.follow(order, out),
+            Ok(Some(Request::View(view))) => {
+                self.view(view, out)?;
+                Ok(Ok(()))
+            }
+            Err(refusal) => Ok(Err(refusal)),
+        }
     }
 }
 
-// The house that the arguments name, if they name one.
-fn named(heap: Global, arguments: &[u64]) -> Result<Option<Store>, AllocError> {
-    let [own, houses] = arguments else {
+impl Player for Own {
+    fn answer(&mut self, line: &[u8], out: &mut String) -> anyhow::Result<()> {
+        let ended = self.play(line, out)?;
+        Ok(console::write_end(self.form, ended, out)?)
+    }
+}
+
+// The house that these numbers name, if they name one.
+fn named(heap: Global, form: Form, numbers: &[u64]) -> Result<Option<Own>, AllocError> {
+    let [own, houses] = numbers else {
         return Ok(None);
     };
     let (Ok(own), Ok(houses)) = (u8::try_from(*own), u8::try_from(*houses)) else {
         return Ok(None);
     };
     match Store::new(heap, House(own), houses) {
-        Ok(store) => Ok(Some(store)),
+        Ok(store) => Ok(Some(Own {
+            heap,
+            form,
+            house: House(own),
+            houses,
+            store,
+            asked: None,
+        })),
         Err(Fault::Refused(_)) => Ok(None),
         Err(Fault::NoMemory) => Err(AllocError),
     }
 }
 
-fn main(rt: HostRuntime) -> anyhow::Result<ExitCode> {
-    let heap = rt.alloc();
-    let Some(arguments) = console::arguments(&rt)? else {
-        return console::wrong_arguments(&rt, USAGE);
+fn play(rt: &HostRuntime, form: Form, numbers: &[u64]) -> anyhow::Result<ExitCode> {
+    let Some(mut player) = named(rt.alloc(), form, numbers)? else {
+        return console::wrong_arguments(rt, USAGE);
     };
-    let Some(store) = named(heap, &arguments)? else {
-        return console::wrong_arguments(&rt, USAGE);
-    };
-    let mut player = Own { heap, store };
-    console::play(&rt, &mut player)?;
+    console::play(rt, &mut player, false)?;
     Ok(ExitCode::SUCCESS)
+}
+
+fn main(rt: HostRuntime) -> anyhow::Result<ExitCode> {
+    match console::read_arguments(&rt)? {
+        Wanted::Help => console::help(&rt, HELP),
+        Wanted::Version => console::version(&rt, "house"),
+        Wanted::Play(form, numbers) => play(&rt, form, &numbers),
+        Wanted::Nothing => console::wrong_arguments(&rt, USAGE),
+    }
 }

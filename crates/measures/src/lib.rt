@@ -5,13 +5,14 @@
 use node::Answer;
 use std::alloc::{AllocError, Global};
 use store::Store;
+use text::Request;
 use wire::{House, Refusal};
 
-// An empty line is refused as well.
+// A line that is no order is refused as well.
 fn told_line(heap: Global, store: &mut Store, line: &[u8]) -> Result<Answer, AllocError> {
     match text::read_line(line) {
-        Ok(Some(order)) => console::follow(heap, store, order),
-        Ok(None) => Ok(Err(Refusal::Malformed.into())),
+        Ok(Some(Request::Order(order))) => console::follow(heap, store, order),
+        Ok(Some(Request::View(_)) | None) => Ok(Err(Refusal::Malformed.into())),
         Err(refusal) => Ok(Err(refusal.into())),
     }
 }

@@ -2,25 +2,24 @@
 
 #![tactic(auto)]
 
-use console::Player;
-use lines::Line;
+mod help;
+
+use console::{Form, Player, Wanted};
+use help::{HELP, USAGE};
 use net::{Net, Played, Setback};
 use node::Recipient;
 use objects::Fault;
 use std::alloc::{AllocError, Global};
 use std::fmt::Write;
 use std::process::ExitCode;
-use tables::Object;
-use text::{Order, Play};
-use wire::{House, Refusal};
+use text::{Order, Play, View};
+use wire::{Census, House, Message, Refusal, RoundNumber};
 
-const USAGE: &str =
-    "usage: rehearse N   (N houses, from 1 to 4; calls and deliveries on standard input)";
-
-// The net, and how many of its messages were printed.
+// The net, how many of its messages were printed, and how a refusal is.
 #[derive(Drop)]
 struct Rehearsal {
     heap: Global,
+    form: Form,
     net: Net,
     printed: usize,
 }
@@ -30,16 +29,24 @@ fn place(number: u64) -> Option<usize> {
     usize::try_from(number.checked_sub(1)?).ok()
 }
 
-fn malformed(out: &mut String) -> anyhow::Result<()> {
-    Ok(text::write_refusal(Refusal::Malformed, out)?)
+// The round that a message asks, after its census.
+fn round_in(bytes: &[u8], houses: u8) -> Option<(Census, RoundNumber)> {
+    match wire::read(bytes, houses).ok()?.message {
+        Message::Round { census, number } => Some((census, number)),
+        _ => None,
+    }
 }
 
 impl Rehearsal {
+    fn refuse(&self, refusal: Refusal, out: &mut String) -> anyhow::Result<()> {
+        Ok(console::write_end(self.form, Err(refusal), out)?)
+    }
+
     // What was sent since is printed with its numbers, or why nothing was done.
     fn report(&mut self, played: Played, out: &mut String) -> anyhow::Result<()> {
         match played {
             Ok(()) => self.print_sent(out)?,
-            Err(Setback::Fault(Fault::Refused(refusal))) => text::write_refusal(refusal, out)?,
+            Err(Setback::Fault(Fault::Refused(refusal))) => self.refuse(refusal, out)?,
             Err(Setback::Fault(Fault::NoMemory) | Setback::Lost) => return Err(AllocError.into()),
         }
         Ok(())
@@ -62,7 +69,7 @@ impl Rehearsal {
             Order::Call(call) => self.net.call(house, call),
             Order::Got(digits) => match text::read_hex(self.heap, digits)? {
                 Some(bytes) => self.net.forge(house, &bytes),
-                None => return malformed(out),
+                None => return self.refuse(Refusal::Malformed, out),
             },
         };
         self.report(played, out)
@@ -70,7 +77,7 @@ impl Rehearsal {
 
     fn deliver_at(&mut self, house: House, number: u64, out: &mut String) -> anyhow::Result<()> {
         let Some(message) = place(number) else {
-            return malformed(out);
+            return self.refuse(Refusal::Malformed, out);
         };
         let played = self.net.deliver(house, message);
         self.report(played, out)
@@ -91,7 +98,7 @@ impl Rehearsal {
                 }
                 Ok(())
             }
-            None => malformed(out),
+            None => self.refuse(Refusal::Malformed, out),
         }
     }
 
@@ -101,41 +108,38 @@ impl Rehearsal {
         self.report(played.map_err(Setback::from), out)
     }
 
+    // The round that house 0, which alone asks rounds, asked last.
+    fn asked(&self) -> Option<(Census, RoundNumber)> {
+        let houses = self.net.count();
+        let mut latest = self.net.messages().iter().rev();
+        latest.find_map(|bytes| round_in(bytes, houses))
+    }
+
     fn show(&self, out: &mut String) -> Result<(), AllocError> {
-        for (number, store) in self.net.houses().iter().enumerate() {
-            let census = store.census();
-            writeln!(out, "house {number} census {census}")?;
-            for object in store.objects() {
-                show_object(object, out)?;
-            }
-            for root in store.roots() {
-                writeln!(out, "root {root}")?;
-            }
-            for line in (0..2048).map_while(|i| store.line(i)) {
-                show_line(line, out)?;
-            }
+        for (number, store) in (0..).zip(self.net.houses()) {
+            console::write_tables(House(number), store, out)?;
         }
         Ok(())
     }
-}
 
-fn show_object(object: &Object, out: &mut String) -> Result<(), AllocError> {
-    let name = object.name();
-    write!(out, "object {name}")?;
-    for field in object.fields() {
-        write!(out, " {field}")?;
+    fn status(&self, out: &mut String) -> Result<(), AllocError> {
+        let mut asked = self.asked();
+        for (number, store) in (0..).zip(self.net.houses()) {
+            let round = console::present_round(asked, store.census());
+            text::write_status(console::status(House(number), store, round), out)?;
+            // the other houses ask none
+            asked = None;
+        }
+        Ok(())
     }
-    out.push('\n')
-}
 
-fn show_line(line: Line, out: &mut String) -> Result<(), AllocError> {
-    let Line {
-        object,
-        holder,
-        stamp,
-        census,
-    } = line;
-    writeln!(out, "line {object} {holder} {stamp} {census}")
+    fn view(&self, view: View, out: &mut String) -> Result<(), AllocError> {
+        match view {
+            View::Show => self.show(out),
+            View::Status => self.status(out),
+            View::Help => out.push_str(HELP),
+        }
+    }
 }
 
 impl Player for Rehearsal {
@@ -145,17 +149,17 @@ impl Player for Rehearsal {
             Ok(Some(Play::At(house, order))) => self.follow(house, order, out)?,
             Ok(Some(Play::DeliverAt(house, message))) => self.deliver_at(house, message, out)?,
             Ok(Some(Play::Deliver(message))) => self.deliver(message, out)?,
-            Ok(Some(Play::Show)) => self.show(out)?,
+            Ok(Some(Play::View(view))) => self.view(view, out)?,
             Ok(Some(Play::Settle)) => self.settle(out)?,
-            Err(refusal) => text::write_refusal(refusal, out)?,
+            Err(refusal) => self.refuse(refusal, out)?,
         }
         Ok(())
     }
 }
 
-// As many empty houses as the argument says.
-fn empty(heap: Global, arguments: &[u64]) -> anyhow::Result<Option<Rehearsal>> {
-    let [count] = arguments else {
+// As many empty houses as the number says. One answer here may be of several houses, so there is no framed form.
+fn empty(heap: Global, form: Form, numbers: &[u64]) -> anyhow::Result<Option<Rehearsal>> {
+    let ([count], Form::Plain | Form::Named) = (numbers, form) else {
         return Ok(None);
     };
     let Ok(count @ 1..=4) = u8::try_from(*count) else {
@@ -164,6 +168,7 @@ fn empty(heap: Global, arguments: &[u64]) -> anyhow::Result<Option<Rehearsal>> {
     match Net::new(heap, count) {
         Ok(net) => Ok(Some(Rehearsal {
             heap,
+            form,
             net,
             printed: 0,
         })),
@@ -172,13 +177,19 @@ fn empty(heap: Global, arguments: &[u64]) -> anyhow::Result<Option<Rehearsal>> {
     }
 }
 
-fn main(rt: HostRuntime) -> anyhow::Result<ExitCode> {
-    let Some(arguments) = console::arguments(&rt)? else {
-        return console::wrong_arguments(&rt, USAGE);
+fn play(rt: &HostRuntime, form: Form, numbers: &[u64]) -> anyhow::Result<ExitCode> {
+    let Some(mut player) = empty(rt.alloc(), form, numbers)? else {
+        return console::wrong_arguments(rt, USAGE);
     };
-    let Some(mut player) = empty(rt.alloc(), &arguments)? else {
-        return console::wrong_arguments(&rt, USAGE);
-    };
-    console::play(&rt, &mut player)?;
+    console::play(rt, &mut player, true)?;
     Ok(ExitCode::SUCCESS)
+}
+
+fn main(rt: HostRuntime) -> anyhow::Result<ExitCode> {
+    match console::read_arguments(&rt)? {
+        Wanted::Help => console::help(&rt, HELP),
+        Wanted::Version => console::version(&rt, "rehearse"),
+        Wanted::Play(form, numbers) => play(&rt, form, &numbers),
+        Wanted::Nothing => console::wrong_arguments(&rt, USAGE),
+    }
 }

@@ -1,4 +1,4 @@
-ghost use Rattle.std.specs.Prelude.{◌≡◌};
+ghost use Rattle.std.specs.Prelude.{◌≡◌, length};
 ghost use Rattle.tables.specs.Shown.{numbers, objects_of};
 ghost use Rattle.lines.specs.Lists.{line_at};
 ghost use Rattle.rules.specs.House.{census};
@@ -36,6 +36,13 @@ impl Store {
         ensures { numbers result.now ≡ (house_in self.now).heap.roots }
     {
         self.objects.roots()
+    }
+
+    /// How many lines the list has.
+    pub fn line_count(&self) -> usize
+        ensures { result ≡ length (house_in self.now).list }
+    {
+        self.len
     }
 
     // The line of the list at place `i`. It is read from the columns themselves, since `Lines` can be lent them only to write.

@@ -4,3 +4,5 @@ pub mod Hex
 pub mod Calls
 pub mod Lines
 pub mod Output
+pub mod Arguments
+pub mod Status

@@ -1,6 +1,6 @@
 ghost use Rattle.std.specs.Prelude.{◌≡◌, option_map};
 ghost use Rattle.text.specs.Words.{words, NoneEmpty};
-ghost use Rattle.text.specs.Lines.{said, order_of, comment, line_said, line_of, played, by_word_at_house, at_house, by_word, play_said, play_of};
+ghost use Rattle.text.specs.Lines.{said, order_of, comment, view_of, requested, request_of, line_said, line_of, played, by_word_at_house, at_house, by_other_word, by_word, play_said, play_of};
 
 use crate::calls::{read_call, read_command, sole, sole_word};
 use crate::numbers::FromWord;
@@ -15,6 +15,24 @@ pub enum Order<'a> {
     Got(&'a [u8]),
 }
 
+/// What is printed on request, and changes nothing.
+#[derive(Clone, Copy, Debug, PartialEq, Eq)]
+pub enum View {
+    // the tables, line by line
+    Show,
+    // the census, how far it has come, and how full the tables are
+    Status,
+    // the lines that the program takes
+    Help,
+}
+
+/// A line of the program `house`.
+#[derive(Clone, Copy)]
+pub enum Request<'a> {
+    Order(Order<'a>),
+    View(View),
+}
+
 // A line of a rehearsal.
 #[derive(Clone, Copy)]
 pub enum Play<'a> {
@@ -23,7 +41,7 @@ pub enum Play<'a> {
     DeliverAt(House, u64),
     // it comes to whom it is for
     Deliver(u64),
-    Show,
+    View(View),
     // the collector frees all that does not matter
     Settle,
 }
@@ -37,6 +55,26 @@ fn read_order<'a>(word: &'a [u8], rest: &'a [u8]) -> Option<Order<'a>>
     }
 }
 
+fn read_view(word: &[u8]) -> Option<View>
+    ensures { result ≡ view_of word.now }
+{
+    match word {
+        b"show" => Some(View::Show),
+        b"status" => Some(View::Status),
+        b"help" => Some(View::Help),
+        _ => None,
+    }
+}
+
+fn read_request<'a>(word: &'a [u8], rest: &'a [u8]) -> Option<Request<'a>>
+    ensures { option_map requested result ≡ request_of word.now (words rest.now) }
+{
+    match read_view(word) {
+        Some(view) => is_blank(rest).then_some(Request::View(view)),
+        None => Some(Request::Order(read_order(word, rest)?)),
+    }
+}
+
 // Whether a line that begins with this word is a comment.
 fn is_comment(word: &[u8]) -> bool
     ensures { result ≡ comment word.now }
@@ -44,14 +82,14 @@ fn is_comment(word: &[u8]) -> bool
     matches!(word, [b'#', ..])
 }
 
-// A line of the program `house`, which says nothing where it is empty or a comment.
-pub fn read_line(text: &[u8]) -> Result<Option<Order<'_>>, Refusal>
+/// A line of the program `house`, which says nothing where it is empty or a comment.
+pub fn read_line(text: &[u8]) -> Result<Option<Request<'_>>, Refusal>
     ensures value { line_said result ≡ line_of (words text.now) }
     ensures full { NoneEmpty }
 {
     match first_word(text) {
         Some((word, rest)) if !is_comment(word) => {
-            read_order(word, rest).map(Some).ok_or(Refusal::Malformed)
+            read_request(word, rest).map(Some).ok_or(Refusal::Malformed)
         }
         _ => Ok(None),
     }
@@ -74,14 +112,22 @@ fn at_house<'a>(house: House, text: &'a [u8]) -> Option<Play<'a>>
     by_word_at_house(house, word, rest)
 }
 
-fn by_word<'a>(word: &'a [u8], rest: &'a [u8]) -> Option<Play<'a>>
-    ensures { option_map played result ≡ by_word word.now (words rest.now) }
+fn by_other_word<'a>(word: &'a [u8], rest: &'a [u8]) -> Option<Play<'a>>
+    ensures { option_map played result ≡ by_other_word word.now (words rest.now) }
 {
     match word {
-        b"show" => is_blank(rest).then_some(Play::Show),
         b"settle" => is_blank(rest).then_some(Play::Settle),
         b"deliver" => Some(Play::Deliver(sole(rest)?)),
         _ => at_house(House::from_word(word)?, rest),
+    }
+}
+
+fn by_word<'a>(word: &'a [u8], rest: &'a [u8]) -> Option<Play<'a>>
+    ensures { option_map played result ≡ by_word word.now (words rest.now) }
+{
+    match read_view(word) {
+        Some(view) => is_blank(rest).then_some(Play::View(view)),
+        None => by_other_word(word, rest),
     }
 }
 

@@ -4,6 +4,7 @@
 //! lines of the first rehearsal.
 
 use peer::call::Input;
+use peer::form::Form;
 use peer::generator::{Flood, Script};
 use peer::house::House;
 use peer::house_lines::play;
@@ -128,7 +129,7 @@ fn each(messages: &[Vec<u8>], times: u32, mut one: impl FnMut(&[u8]) -> u64) -> 
 /// A house that was told these lines, and how many it refused.
 fn told(lines: &[String]) -> (House, u64) {
     let mut house = House::new(ME, HOUSES);
-    let refused = lines.iter().filter(|line| play(&mut house, line.as_bytes()).starts_with("no")).count();
+    let refused = lines.iter().filter(|line| play(&mut house, line.as_bytes(), Form::Plain).starts_with("no")).count();
     (house, refused as u64)
 }
 
@@ -170,7 +171,8 @@ fn print_rehearsal(what: &str, script: &Script) {
     let file = std::env::temp_dir().join(format!("rehearsal-{}", std::process::id()));
     std::fs::write(&file, script.text()).expect("the script can be written");
     let path = file.to_str().expect("a path in plain text");
-    let program = |side| if side == Side::Rattle { "crates/rehearse/out/rehearse" } else { "peer/target/release/peer-rehearse" };
+    let program =
+        |side| if side == Side::Rattle { "crates/rehearse/out/rehearse" } else { "peer/target/release/peer-rehearse" };
     let what = format!("the program `rehearse`, four houses, {} lines, {what}", script.lines.len());
     print_row(&what, best(|side| rehearsal_time(program(side), path)));
     let _ = std::fs::remove_file(&file);

@@ -1,6 +1,7 @@
 //! Compares another `rehearse` or `house` with the model over the scripts of many seeds.
 
 use peer::compare::{Difference, Other};
+use peer::form::Form;
 use peer::generator::{flooded_script, script, Flood, Script};
 use peer::net::Net;
 use peer::shrink::shrink;
@@ -17,13 +18,17 @@ fn main() -> ExitCode {
     let mut stats = Stats::default();
     let mut runs = 0;
     let mut by_houses: BTreeMap<u8, u64> = BTreeMap::new();
+    let mut by_form = vec![0; other.forms().len()];
     for seed in from..from + count {
         let script = script_of(&other, seed);
-        if let Some(difference) = other.difference(&script) {
-            report(&other, seed, &script, &difference);
+        let turn = seed as usize % by_form.len();
+        let form = other.forms()[turn];
+        if let Some(difference) = other.difference(&script, form) {
+            report(&other, seed, &script, form, &difference);
             return ExitCode::from(2);
         }
         note(&script, &mut stats);
+        by_form[turn] += other.runs(&script);
         runs += other.runs(&script);
         *by_houses.entry(script.houses).or_default() += 1;
         if (seed - from) % 100 == 99 {
@@ -31,7 +36,10 @@ fn main() -> ExitCode {
         }
     }
     println!("equal: runs {runs} {stats}; scripts by count of houses {by_houses:?}");
-    finish(&stats)
+    let forms: Vec<String> =
+        other.forms().iter().zip(&by_form).map(|(form, runs)| format!("{form:?} {runs}").to_lowercase()).collect();
+    println!("runs by form: {}", forms.join(", "));
+    finish(&stats, by_form.contains(&0))
 }
 
 fn wanted(arguments: &[String]) -> Option<(Other, u64, u64)> {
@@ -69,12 +77,12 @@ fn note(script: &Script, stats: &mut Stats) {
     }
 }
 
-fn report(other: &Other, seed: u64, script: &Script, difference: &Difference) {
-    println!("seed {seed}: {}", told(difference));
-    let small = shrink(script, |script| other.difference(script).is_some());
+fn report(other: &Other, seed: u64, script: &Script, form: Form, difference: &Difference) {
+    println!("seed {seed}, {form:?}: {}", told(difference));
+    let small = shrink(script, |script| other.difference(script, form).is_some());
     println!("houses {}, made smaller:", small.houses);
     print!("{}", String::from_utf8_lossy(&small.text()));
-    if let Some(difference) = other.difference(&small) {
+    if let Some(difference) = other.difference(&small, form) {
         println!("# {}", told(&difference));
     }
 }
@@ -85,8 +93,11 @@ fn told(difference: &Difference) -> String {
 }
 
 /// A comparison that never met one of the numbers, or something else, has not compared enough.
-fn finish(stats: &Stats) -> ExitCode {
-    let (unreached, unmet) = (stats.unreached(), stats.unmet());
+fn finish(stats: &Stats, form_left_out: bool) -> ExitCode {
+    let (unreached, mut unmet) = (stats.unreached(), stats.unmet());
+    if form_left_out {
+        unmet.push("one of the forms");
+    }
     if unreached.is_empty() && unmet.is_empty() {
         return ExitCode::SUCCESS;
     }

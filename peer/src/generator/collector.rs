@@ -44,8 +44,10 @@ impl Writer {
         self.write(format!("{house} round"));
     }
 
+    /// Asks for something to be printed.
     pub fn show(&mut self) {
-        self.write("show");
+        let view = self.random.pick(&["show", "show", "show", "status", "status", "help"]).copied().expect("six lines");
+        self.write(view);
     }
 
     pub fn highest_census(&self) -> u32 {

@@ -62,7 +62,7 @@ fn finished(mut writer: Writer, length: usize) -> Script {
     while writer.lines.len() < length {
         writer.go_on();
     }
-    for last in ["show", "settle", "show"] {
+    for last in ["show", "status", "settle", "show", "status"] {
         writer.write(last);
     }
     Script { houses: writer.net.count(), lines: writer.lines }

@@ -5,7 +5,7 @@ use crate::message::Message;
 use crate::text;
 
 /// Wrong or at a limit, but never a message; after a house's number.
-const CALLS: [&str; 44] = [
+const CALLS: [&str; 46] = [
     "make 0",
     "make 268435456",
     "make 4294967296",
@@ -48,11 +48,13 @@ const CALLS: [&str; 44] = [
     "round 1",
     "round 0 1",
     "show",
+    "status",
+    "help",
     "deliver",
     "got",
 ];
 
-const LINES: [&str; 22] = [
+const LINES: [&str; 25] = [
     "",
     "   \t\r",
     "# a remark",
@@ -67,6 +69,9 @@ const LINES: [&str; 22] = [
     "collect",
     "show 1",
     "show show",
+    "status 0",
+    "help me",
+    "Help",
     "deliver",
     "deliver 0",
     "deliver 4294967297",

@@ -1,6 +1,7 @@
 //! Rehearsals written out by hand: lines that begin with `> ` are told to the houses, the lines
 //! after each are what must be printed.
 
+use peer::form::Form;
 use peer::net::Net;
 
 pub fn rehearse(houses: u8, dialogue: &str) {
@@ -9,6 +10,6 @@ pub fn rehearse(houses: u8, dialogue: &str) {
         let (told, expected) = exchange.split_once('\n').unwrap_or((exchange, ""));
         let expected: String =
             expected.lines().map(|line| line.trim().to_string() + "\n").filter(|line| line != "\n").collect();
-        assert_eq!(net.play(told.as_bytes()).output, expected, "after: {told}");
+        assert_eq!(net.play(told.as_bytes()).output(Form::Plain), expected, "after: {told}");
     }
 }

@@ -1,6 +1,6 @@
 use Rattle.std.proofs.Common.{◌≡◌, codes, arith, rules}
 use Rattle.std.proofs.lemmas.Slice.Eq.{text_from_reads}
-use Rattle.text.proofs.lines.by_word.Goals as goal
+use Rattle.text.proofs.lines.by_other_word.Goals as goal
 
 pub returns-in_err-sole-in-deliver : goal.returns-in_err-sole-in-deliver
 returns-in_err-sole-in-deliver c =

@@ -1,0 +1,36 @@
+#!/usr/bin/env python3
+"""Drives two houses until a ring across them is freed. Usage: docs/driver.py crates/house/out/house"""
+import subprocess
+import sys
+
+PIPES = {"stdin": subprocess.PIPE, "stdout": subprocess.PIPE, "text": True}
+HOUSES = [subprocess.Popen([sys.argv[1], "--framed", str(i), "2"], **PIPES) for i in (0, 1)]
+
+
+def tell(house, line):
+    """Tells a house a line, prints what it shows, and then carries what it sends to whom it is for."""
+    print(line, file=HOUSES[house].stdin, flush=True)
+    sends = []
+    while (answer := HOUSES[house].stdout.readline().strip()) != "ok":
+        if not answer or answer.startswith("no "):
+            sys.exit(f"house {house}, {line}: {answer or 'it has ended'}")
+        if answer.startswith("send "):
+            sends.append(answer.split()[1:])
+        else:
+            print(answer)
+    for to, digits in sends:
+        tell(int(to), "got " + digits)
+
+
+def tell_both(*lines):
+    for line in lines:
+        for house in (0, 1):
+            tell(house, line.format(own=16 + house, far=17 - house, other=1 - house))
+
+
+tell_both("make 1", "ask {own} {other}", "link {own} {far}", "drop {own}", "drop {far}")  # a ring that nobody reaches
+tell_both("word {other}", "collect", "show")  # the lists keep it
+tell_both("join 1", "tell")  # a census of what is in use
+tell(0, "round")
+tell(0, "round")  # agrees with the first: each house has heard that the census is complete
+tell_both("collect", "show", "status")
