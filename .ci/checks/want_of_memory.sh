@@ -21,8 +21,8 @@ breaks_off() {
         cmp -s -n "$(wc -c <"$SCRATCH/out")" "$SCRATCH/out" "$SCRATCH/$whole"
 }
 
-# A round comes to a house with 7,168 references in use. It lists them to say whether it is calm, and no other line wants as much memory:
-# the long line before them takes what a program gets when it starts.
+# A round comes to a house with 7,168 references in use, which it answers without a list of them; then it is to name them all in a word, and no other
+# line wants as much memory: the long line before them takes what a program gets when it starts.
 {
     printf '#'
     head -c 60000 /dev/zero | tr '\0' '.'
@@ -34,21 +34,23 @@ breaks_off() {
                 printf "\nlink %d %d\ndrop %d", own * 16, far * 16 + 1, far * 16 + 1
             }
         }
-        print "\ngot 060000000100000001\nmake 1"
+        print "\ngot 060000000100000001\nword 1\nmake 1"
     }'
-} >"$SCRATCH/round"
-"$HOUSE" 0 2 <"$SCRATCH/round" >"$SCRATCH/answered"
+} >"$SCRATCH/word"
+"$HOUSE" 0 2 <"$SCRATCH/word" >"$SCRATCH/answered"
 head -n -2 "$SCRATCH/answered" >"$SCRATCH/before"
 
-# From the least limit on with which a house answers a round where it has one reference: this one is answered too, or the program breaks off, and at least once just there.
-breaks_off_at_a_round() {
+# From the least limit on with which a house sends a word of one reference: this one is sent too, or the program breaks off, and at least once just there,
+# with the round answered.
+breaks_off_at_a_word() {
     local least=1000 limit hits=0
-    until (ulimit -v "$least" && exec "$HOUSE" 0 2) <<<$'got 02000000110000000001\ngot 060000000100000001' >/dev/null 2>&1; do
+    [ "$(tail -n 1 "$SCRATCH/before")" = 070000000100000001000000000000 ] || return 1
+    until (ulimit -v "$least" && exec "$HOUSE" 0 2) <<<$'got 02000000110000000001\nword 1' >/dev/null 2>&1; do
         least=$((least + 32))
         [ "$least" -le 16000 ] || return 1
     done
     for ((limit = least + 16; limit <= least + 400; limit += 32)); do
-        if breaks_off "$limit" round answered "$HOUSE" 0 2; then
+        if breaks_off "$limit" word answered "$HOUSE" 0 2; then
             cmp -s "$SCRATCH/out" "$SCRATCH/before" && hits=$((hits + 1))
         elif [ -s "$SCRATCH/err" ] || ! cmp -s "$SCRATCH/out" "$SCRATCH/answered"; then
             return 1
@@ -63,5 +65,5 @@ done
 for limit in 4000 8000; do
     try "house with $limit KiB of memory" breaks_off "$limit" orders ordered "$HOUSE" 0 2
 done
-try "house lacks memory for a round" breaks_off_at_a_round
+try "house lacks memory for a word, and for no round" breaks_off_at_a_word
 rm -rf "$SCRATCH"
