@@ -3,9 +3,7 @@ use Rattle.std.proofs.Common.{◌≡◌, ℕ, Bool, true, false, List, ◌∷◌
 use mathlib.Core.List.Memᴰ
 use mathlib.Core.List.{Memᴰ}
 use Rattle.promise.specs.Net.{Msg, Ask, Give, Word, Mark, Sweep, Net, Uses, Cleans}
-use Rattle.promise.specs.Rounds.{World, Ended, census_of, AsBefore, Turn, Runs, Upto}
-use Rattle.promise.specs.Promise.{RoundsCalled}
-use Rattle.promise.proofs.Ends.{rounds_true}
+use Rattle.promise.specs.Rounds.{World, Ended, census_of, AsBefore, Turn}
 
 abbrev NoSweep : Msg → Type 0
 NoSweep (Ask o i j) = Unit {0}
@@ -60,11 +58,3 @@ turn_news (Turn.complete w e) c m = ⊎_elim (λ q. inr (refl, same c (census_of
     same : (a b : ℕ) → Sweep a ≡ Sweep b → b ≡ a
     same a b q = cc
 turn_news (Turn.alike w v a) c m = inl ((a.net.sent (Sweep c)).1 m)
-
-pub rounds_called : RoundsCalled
-rounds_called houses small w Runs.begun c m = absurd (Memᴰ.not-nil m)
-rounds_called houses small w (Runs.then {w = before} ran t) c m =
-    ⊎_elim
-    (λ old. let z = rounds_called houses small before ran c old in (z.0, z.1, Upto.on z.2 t, z.3, z.4, z.5))
-    (λ now. (before, ran, Upto.on Upto.all t, now.1, now.2, rounds_true houses small before ran now.2))
-    (turn_news t c m)

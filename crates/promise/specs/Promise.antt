@@ -6,8 +6,8 @@ use Rattle.tables.specs.Model.{is_in, present, fields_of}
 use Rattle.tables.specs.Met.{everywhere}
 use Rattle.lines.specs.Listed.{listed, listed_in}
 use Rattle.promise.specs.House.{count_of}
-use Rattle.promise.specs.Net.{Ask, Give, Sweep, Net, Complete}
-use Rattle.promise.specs.Rounds.{World, census_of, Ended, Turn, Runs, Begins, Upto}
+use Rattle.promise.specs.Net.{Ask, Give, Net, Complete}
+use Rattle.promise.specs.Rounds.{World, census_of, Ended, Turn, Runs, Begins}
 
 -- House j has a reference that matters: as a root, on its way to it, or in a field of an object of its own that somebody has a reference to that matters.
 pub data Has (n : Net) : ℕ → ℕ → Type 0 where
@@ -40,14 +40,6 @@ WasComplete {houses} {w} r = (v : World) × Begins r v × (census_of v 0 ≡ cen
 -- Where the rounds have ended, the census was complete.
 abbrev pub RoundsTrue : Type 0
 RoundsTrue = (houses : ℕ) → houses ≤ 16 → (w : World) → (r : Runs houses w) → Ended houses w.desk → WasComplete r
-
--- at some moment of the run r, or at its end, the rounds of census c had ended, and it was complete when the run up to then had begun the last of them
-abbrev pub Called : {houses : ℕ} → ℕ → {w : World} → Runs houses w → Type 0
-Called {houses} c {w} r = (u : World) × (q : Runs houses u) × Upto q w r × (census_of u 0 ≡ c) × Ended houses u.desk × WasComplete q
-
--- Wherever the news is among the messages that a census is complete, however old, it was.
-abbrev pub RoundsCalled : Type 0
-RoundsCalled = (houses : ℕ) → houses ≤ 16 → (w : World) → (r : Runs houses w) → (c : ℕ) → Memᴰ (Sweep c) w.net.sent → Called c r
 
 -- And it still is, if no house has joined the next since.
 abbrev pub RoundsStill : Type 0
