@@ -30,7 +30,8 @@ use Rattle.play.proofs.FairWays.{told_way}
 use Rattle.ends.specs.Run.{world, Later, Sends, Comes, Goes, Cleans, Worn}
 use Rattle.ends.specs.Lives.{Lives}
 use Rattle.ends.specs.Garbage.{Still, Begins, AllHeard, AlwaysHears, AlwaysFrees}
-use Rattle.ends.proofs.Moments.{later_then, later_as, now, next, persist, same_step}
+use Rattle.play.proofs.Pump.{same_step}
+use Rattle.ends.proofs.Moments.{later_then, later_as, now, next, persist}
 use Rattle.ends.proofs.Lifts.{entry_seen}
 use Rattle.ends.proofs.Lives.{reach_world, shift, goes_on, later_back}
 use Rattle.ends.proofs.Fair.{clean_gives, collectors, own, below_all}

@@ -6,16 +6,16 @@ use Rattle.std.proofs.lemmas.Bool.{and_from, cond-true, eq-eqb, lt-ltb, cases_eq
 use Rattle.wire.specs.declared.call.Call.{Call}
 use Rattle.wire.specs.declared.message.Message.{Message}
 use Rattle.wire.specs.declared.refusal.Refusal.{Refusal}
-use Rattle.wire.specs.Format.{decode}
 use Rattle.wire.specs.Laws.{ReadAs}
 use Rattle.lines.specs.Stamping.{seen_from}
-use Rattle.rules.specs.House.{House, houses, census}
-use Rattle.rules.specs.Step.{Outcome, Letter, came, receives, read_as, step, event_of}
+use Rattle.rules.specs.House.{House, census}
+use Rattle.rules.specs.Step.{Outcome, Letter, came, step, event_of}
 use Rattle.promise.specs.Rounds.{Runs}
 use Rattle.promise.specs.Rounds as promise
 use Rattle.play.specs.Play.{World, Entry, calls, bytes_of, written, happens, play, answered}
 use Rattle.play.specs.Seen.{seen}
 use Rattle.play.specs.Settle.{below, goes_to}
+use Rattle.play.proofs.Pump.{same_step}
 use Rattle.play.proofs.Frame.{Deed, Way}
 use Rattle.play.proofs.Pump.{got}
 use Rattle.play.proofs.Tracking.{Kept, kept, kept_play, runs_on, way_play}
@@ -72,12 +72,6 @@ below_mem (suc n) i l = ⊎_elim (λ e. Memᴰ.append_right (below n) (Memᴰ.he
   where
     earlier : i < suc n → (i ≡ n → ⊥) → i < n
     earlier l a = omega arith
-
-pub same_step : (n : ℕ) (l : Letter) (h : House) → houses h ≡ n → ReadAs n (bytes_of l) l.0 l.1 → step h (came (bytes_of l)) ≡ got l h
-same_step n l h e r =
-    ap (λ (z : ℕ). read_as (decode z (bytes_of l)) (bytes_of l) h) e
-    ∙ ap (λ (z : Result Message Refusal). read_as z (bytes_of l) h) r.message
-    ∙ ap (λ (z : List ℕ). receives l.0 z h) r.part
 
 module _ (x : Course) where
   abbrev pub at : ℕ → World

@@ -35,7 +35,8 @@ at_end : (xs ys : List (List ℕ)) (y : List ℕ) → get_or (xs ++ (y ∷ ys)) 
 at_end [] ys y = refl
 at_end (x ∷ xs) ys y = at_end xs ys y
 
-same_step : (n : ℕ) (l : Letter) (h : House) → houses h ≡ n → ReadAs n (bytes_of l) l.0 l.1 → step h (came (bytes_of l)) ≡ got l h
+-- a message that was sent is received as what it is
+pub same_step : (n : ℕ) (l : Letter) (h : House) → houses h ≡ n → ReadAs n (bytes_of l) l.0 l.1 → step h (came (bytes_of l)) ≡ got l h
 same_step n l h e r =
     ap (λ (z : ℕ). read_as (decode z (bytes_of l)) (bytes_of l) h) e
     ∙ ap (λ (z : Result Message Refusal). read_as z (bytes_of l) h) r.message
