@@ -12,7 +12,7 @@ pub use forms::{Form, write_end, write_sent};
 pub use orders::{follow, messages};
 use std::io::{BufRead, BufReader, IsTerminal, Write};
 use std::process::ExitCode;
-pub use views::{present_round, round_asked, status, write_tables};
+pub use views::{status, write_tables};
 
 // The kit that the programs are proved with, as `rt version` prints it.
 const KIT: &str = "rattle-kit-13f logic dac8208d650f15bf";

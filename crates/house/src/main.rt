@@ -11,7 +11,7 @@ use std::alloc::{AllocError, Global};
 use std::process::ExitCode;
 use store::Store;
 use text::{Order, Request, View};
-use wire::{Census, House, Refusal, RoundNumber};
+use wire::{House, Refusal};
 
 // The house, which of how many it is, and how it prints.
 #[derive(Drop)]
@@ -21,17 +21,12 @@ struct Own {
     house: House,
     houses: u8,
     store: Store,
-    // the round that it asked last, after its census
-    asked: Option<(Census, RoundNumber)>,
 }
 
 impl Own {
     // An order is followed, and what is sent is printed.
     fn follow(&mut self, order: Order, out: &mut String) -> anyhow::Result<Result<(), Refusal>> {
         let answer = console::follow(self.heap, &mut self.store, order)?;
-        if let Some(round) = console::round_asked(&answer) {
-            self.asked = Some(round);
-        }
         match console::messages(self.heap, &answer)? {
             Ok(messages) => {
                 console::write_sent(self.form, self.houses, &messages, out)?;
@@ -44,10 +39,7 @@ impl Own {
     fn view(&self, view: View, out: &mut String) -> Result<(), AllocError> {
         match view {
             View::Show => console::write_tables(self.house, &self.store, out),
-            View::Status => {
-                let round = console::present_round(self.asked, self.store.census());
-                text::write_status(console::status(self.house, &self.store, round), out)
-            }
+            View::Status => text::write_status(console::status(self.house, &self.store), out),
             View::Help => out.push_str(HELP),
         }
     }
@@ -88,7 +80,6 @@ fn named(heap: Global, form: Form, numbers: &[u64]) -> Result<Option<Own>, Alloc
             house: House(own),
             houses,
             store,
-            asked: None,
         })),
         Err(Fault::Refused(_)) => Ok(None),
         Err(Fault::NoMemory) => Err(AllocError),

@@ -15,7 +15,7 @@ use census::Standing;
 use lines::Stamps;
 use rounds::Desk;
 use std::alloc::Global;
-use wire::{Call, Census, Tally};
+use wire::{Call, Census, RoundNumber, Tally};
 
 impl Head {
     // Nothing given, seen, heard or told yet.
@@ -45,6 +45,13 @@ impl Head {
         ensures { result.0 ≡ (part_of self.now.standing).tally }
     {
         self.standing.tally()
+    }
+
+    /// The number of the present round, which this house has asked; 0 where it has asked none in this census.
+    pub fn round_number(&self) -> RoundNumber
+        ensures { result.0 ≡ (desk_of self.now.desk).round }
+    {
+        self.desk.number()
     }
 
     // A call of the house's programs, or of its collector.

@@ -13,7 +13,7 @@ use std::alloc::{AllocError, Global};
 use std::fmt::Write;
 use std::process::ExitCode;
 use text::{Order, Play, View};
-use wire::{Census, House, Message, Refusal, RoundNumber};
+use wire::{House, Refusal};
 
 // The net, how many of its messages were printed, and how a refusal is.
 #[derive(Drop)]
@@ -27,14 +27,6 @@ struct Rehearsal {
 // The place of a message that is counted from 1.
 fn place(number: u64) -> Option<usize> {
     usize::try_from(number.checked_sub(1)?).ok()
-}
-
-// The round that a message asks, after its census.
-fn round_in(bytes: &[u8], houses: u8) -> Option<(Census, RoundNumber)> {
-    match wire::read(bytes, houses).ok()?.message {
-        Message::Round { census, number } => Some((census, number)),
-        _ => None,
-    }
 }
 
 impl Rehearsal {
@@ -108,13 +100,6 @@ impl Rehearsal {
         self.report(played.map_err(Setback::from), out)
     }
 
-    // The round that house 0, which alone asks rounds, asked last.
-    fn asked(&self) -> Option<(Census, RoundNumber)> {
-        let houses = self.net.count();
-        let mut latest = self.net.messages().iter().rev();
-        latest.find_map(|bytes| round_in(bytes, houses))
-    }
-
     fn show(&self, out: &mut String) -> Result<(), AllocError> {
         for (number, store) in (0..).zip(self.net.houses()) {
             console::write_tables(House(number), store, out)?;
@@ -123,12 +108,8 @@ impl Rehearsal {
     }
 
     fn status(&self, out: &mut String) -> Result<(), AllocError> {
-        let mut asked = self.asked();
         for (number, store) in (0..).zip(self.net.houses()) {
-            let round = console::present_round(asked, store.census());
-            text::write_status(console::status(House(number), store, round), out)?;
-            // the other houses ask none
-            asked = None;
+            text::write_status(console::status(House(number), store), out)?;
         }
         Ok(())
     }

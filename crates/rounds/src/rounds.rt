@@ -23,6 +23,13 @@ impl Desk {
         }
     }
 
+    /// The number of the present round; 0 where none was begun.
+    pub fn number(&self) -> RoundNumber
+        ensures { result.0 ≡ (desk_of self.now).round }
+    {
+        self.round
+    }
+
     // Whether the next round may begin: there is none, or all have answered it.
     fn is_ready(&self, houses: u8) -> bool
         ensures { result ≡ ready houses (desk_of self.now) }

@@ -7,7 +7,7 @@ ghost use Rattle.store.specs.Stores.{house_in};
 use crate::table::Store;
 use lines::Line;
 use tables::Object;
-use wire::{Census, House, Name, Stamp, Tally};
+use wire::{Census, House, Name, RoundNumber, Stamp, Tally};
 
 impl Store {
     // The census that the house is in.
@@ -22,6 +22,13 @@ impl Store {
         ensures { result.0 ≡ (house_in self.now).part.tally }
     {
         self.head.tally()
+    }
+
+    /// The number of the present round, which this house has asked; 0 where it has asked none in this census.
+    pub fn round_number(&self) -> RoundNumber
+        ensures { result.0 ≡ (house_in self.now).desk.round }
+    {
+        self.head.round_number()
     }
 
     // The objects, in rising order of their names.
