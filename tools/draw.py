@@ -68,13 +68,15 @@ def house(number, parts):
     if parts["roots"]:
         out.append(f'<rect x="{x + 25:g}" y="173" width="70" height="22" rx="4" fill="#dcebdc" stroke="#3c7a3c"/>')
         out.append(text(x + HOUSE / 2, 188, "program", 11))
-    for name in parts["roots"]:
-        out.append(arrow((x + HOUSE / 2, 173), middle(name), 0, "#3c7a3c"))
     for name in parts["objects"]:
         u, v = middle(name)
         out.append(f'<circle cx="{u:g}" cy="{v:g}" r="20" fill="#fff" stroke="#222" stroke-width="2"/>')
         out.append(text(u, v + 5, str(name), 14))
     return out
+
+
+def roots(number, parts):
+    return [arrow((left(number) + HOUSE / 2, 173), middle(name), 0, "#3c7a3c") for name in parts["roots"]]
 
 
 def fields(parts):
@@ -93,8 +95,9 @@ def frame(place, shown, first, second):
     out = [f'<g transform="translate({place * WIDTH} 0)">', text(GAP / 2, 24, str(place + 1), 14, "start")]
     for number, parts in enumerate(houses):
         out += house(number, parts)
-    for parts in houses:
-        out += fields(parts)
+    # what leads from one house to another lies over both
+    for number, parts in enumerate(houses):
+        out += roots(number, parts) + fields(parts)
     out += [text(WIDTH / 2 - GAP / 4, 224, first), text(WIDTH / 2 - GAP / 4, 240, second), "</g>"]
     return out
 
