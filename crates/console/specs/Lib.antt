@@ -1,3 +1,4 @@
 pub mod Orders
 pub mod Forms
 pub mod Views
+pub mod Showing

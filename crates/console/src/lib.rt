@@ -5,14 +5,16 @@
 mod arguments;
 mod forms;
 mod orders;
+mod showing;
 mod views;
 
 pub use arguments::{Wanted, read_arguments};
 pub use forms::{Form, write_end, write_sent};
 pub use orders::{follow, messages};
+pub use showing::write_tables;
 use std::io::{BufRead, BufReader, IsTerminal, Write};
 use std::process::ExitCode;
-pub use views::{status, write_tables};
+pub use views::status;
 
 // The kit that the programs are proved with, as `rt version` prints it.
 const KIT: &str = "rattle-kit-13f logic dac8208d650f15bf";
