@@ -22,15 +22,10 @@ def tell(house, line):
         tell(int(to), "got " + digits)
 
 
-def tell_both(*lines):
-    for line in lines:
-        for house in (0, 1):
-            tell(house, line.format(own=16 + house, far=17 - house, other=1 - house))
-
-
-tell_both("make 1", "ask {own} {other}", "link {own} {far}", "drop {own}", "drop {far}")  # a ring that nobody reaches
-tell_both("word {other}", "collect", "show")  # the lists keep it
-tell_both("join 1", "tell")  # a census of what is in use
-tell(0, "round")
-tell(0, "round")  # agrees with the first: each house has heard that the census is complete
-tell_both("collect", "show", "status")
+MADE = ["make 1", "ask {own} {other}", "link {own} {far}", "drop {own}", "drop {far}"]  # a ring that nobody reaches
+KEPT = ["word {other}", "collect", "show"]  # the lists keep it
+FREED = ["join 1", "tell", "round", "round", "collect", "show", "status"]  # a census frees it
+for each in MADE + KEPT + FREED:
+    # only house 0 asks rounds
+    for me in (0,) if each == "round" else (0, 1):
+        tell(me, each.format(own=16 + me, far=17 - me, other=1 - me))
