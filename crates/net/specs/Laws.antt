@@ -5,7 +5,7 @@ use Rattle.play.specs.Promise.{AlwaysSafe}
 use Rattle.play.specs.History.{AlwaysTruly, AlwaysCalled}
 use Rattle.play.specs.Apart.{PartSafe, ApartSafe, NoMessage}
 use Rattle.play.specs.Exact.{AlwaysSettles, NothingLeft, OnlyCleans}
-use Rattle.play.specs.ExactPart.{AlwaysSettlesPart, BoundedPart, OnlyCleansPart}
+use Rattle.play.specs.ExactPart.{SettlesAlike, AlwaysSettlesPart, BoundedPart, FewPassesPart, FewLinesPart, OnlyCleansPart}
 use Rattle.play.specs.Bound.{Bounded, TwoRounds, FewPasses, FewLines}
 use Rattle.play.specs.Cases.{AllCases, GoesOn}
 use Rattle.play.specs.Careless.{CarelessLoses}
@@ -26,10 +26,14 @@ pub record Lawful : Type 0 where
   pub settles : AlwaysSettles
   -- these are all the collector's own
   pub cleans : OnlyCleans
-  -- the same where messages are lost for good
+  -- what they do, and make the houses send, depends on the houses alone, and not on what was sent before
+  pub settles_alike : SettlesAlike
+  -- so the same holds where messages are lost for good
   pub settles_part : AlwaysSettlesPart
   pub cleans_part : OnlyCleansPart
   pub bounded_part : BoundedPart
+  pub passes_part : FewPassesPart
+  pub lines_part : FewLinesPart
   -- they send at most a word of each house to each other, a telling and an answer for each line, and two rounds; and all houses together tell at most once for each house and line, and once more for each house
   pub bounded : Bounded
   pub rounds : TwoRounds

@@ -1,11 +1,10 @@
 -- Where memory is wanting something is to be listed.
-use Rattle.std.proofs.Common.{◌≡◌, ℕ, ◌<◌, true, ◌||◌, List, [], ◌∷◌, length, is_ok, OnErr, IsErrAnd, Ok, Err, Result, Vec, refl, ap, arith}
+use Rattle.std.proofs.Common.{◌≡◌, ℕ, true, ◌||◌, List, [], ◌∷◌, is_ok, OnErr, IsErrAnd, Ok, Err, Result, Vec, refl, ap}
 use Rattle.std.proofs.lemmas.Bool.{false≢true}
 use Rattle.std.specs.declared.alloc.AllocError.{AllocError}
 use Rattle.std.specs.declared.alloc.Global.{Global}
 use Rattle.wire.specs.declared.names.Name.{Name}
 use Rattle.tables.specs.Met.{Lists}
-use Rattle.tables.specs.Shown.{numbers}
 use Rattle.census.specs.Model.{Part, unanswered, due_of, calm}
 use Rattle.objects.specs.declared.fault.Fault.{Fault}
 use Rattle.objects.specs.declared.fault.Fault.TheVariants.{NoMemory}
@@ -16,10 +15,6 @@ pub wants_listed : (r : Result (Vec Name Global) AllocError) (os : List ℕ) (P 
 wants_listed (Ok v) os P l none = tt
 wants_listed (Err e) [] P l none = absurd (false≢true (none l))
 wants_listed (Err e) (o ∷ os) P l none = refl
-
-pub some_listed : (ns : List Name) (i : ℕ) → i < length ns → is_listed (numbers ns) ≡ true
-some_listed [] i h = absurd (omega arith)
-some_listed (n ∷ ns) i h = refl
 
 -- a house that is not calm has something to tell, or to tell again
 pub tell_listed : (us : List ℕ) (p : Part) → (calm us p ≡ true → ⊥) → (is_listed us || is_listed (due_of us p)) ≡ true

@@ -8,7 +8,8 @@ use Rattle.play.proofs.Promise.{always_safe}
 use Rattle.play.proofs.History.{always_truly, always_called}
 use Rattle.play.proofs.Apart.{part_begin, part_safe, apart_safe, no_message}
 use Rattle.play.proofs.FairPump.{only_cleans}
-use Rattle.play.proofs.ExactPart.{settles_part, cleans_part, bounded_part}
+use Rattle.play.proofs.Shifted.{settles_alike}
+use Rattle.play.proofs.ExactPart.{settles_part, cleans_part, bounded_part, passes_part, lines_part}
 use Rattle.play.proofs.Exactness.{always_settles, always_left}
 use Rattle.play.proofs.Bounds.{bounded, few_passes, few_lines}
 use Rattle.play.proofs.BoundCalls.{two_rounds}
@@ -31,9 +32,12 @@ lawful =
       garbled = no_message;
       settles = always_settles;
       cleans = only_cleans;
+      settles_alike = settles_alike;
       settles_part = settles_part;
       cleans_part = cleans_part;
       bounded_part = bounded_part;
+      passes_part = passes_part;
+      lines_part = lines_part;
       bounded = bounded;
       rounds = two_rounds;
       passes = few_passes;
