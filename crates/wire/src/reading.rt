@@ -123,12 +123,17 @@ impl<'a> Reader<'a> {
             return Err(Refusal::Malformed);
         };
         let count = u16::from_be_bytes([*e, *f]);
-        if self.bytes.len() != 9 + 4 * usize::from(count) || !rises(part(self.bytes, 9), *to) {
+        if self.bytes.len() != 9 + 4 * usize::from(count) {
+            return Err(Refusal::Malformed);
+        }
+        // before the objects, which are up to 65,535 to walk over
+        let (from, to) = (self.house(*from)?, self.house(*to)?);
+        if !rises(part(self.bytes, 9), to.0) {
             return Err(Refusal::Malformed);
         }
         Ok(Message::Word {
-            from: self.house(*from)?,
-            to: self.house(*to)?,
+            from,
+            to,
             stamp: Stamp(u32::from_be_bytes([*a, *b, *c, *d])),
             objects: Part { at: 9, count },
         })
