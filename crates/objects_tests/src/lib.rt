@@ -277,8 +277,9 @@ mod tests {
         let mut object = Object::new(Name(16));
         object.link(Name(33));
         let copy = object.clone()?;
+        let second = object;
         object.link(Name(48));
-        assert_eq!(rt; (object.count(), copy.count()), (2, 1));
+        assert_eq!(rt; (object.count(), copy.count(), second.count()), (2, 1, 1));
         assert!(rt; copy.name() == Name(16) && copy.fields() == [Name(33)].as_slice());
         Ok(())
     }
