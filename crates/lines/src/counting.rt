@@ -1,4 +1,4 @@
-ghost use Rattle.std.specs.Prelude.{◌≡◌, ◌<◌, ◌≤◌, not, ◌&&◌, length, map, ◌==◌, nat_lt, slice_index};
+ghost use Rattle.std.specs.Prelude.{◌≡◌, ◌<◌, ◌≤◌, not, ◌&&◌, map, take, ◌==◌, nat_lt, slice_index};
 ghost use Rattle.std.specs.List.{filter};
 ghost use Rattle.wire.specs.Names.{name};
 ghost use Rattle.lines.specs.Laws.{Raises, LeavesUnheard};
@@ -61,31 +61,28 @@ impl Lines<'_> {
         Census(self.censuses[at]) == census
     }
 
-    // The objects of all lines, in their order, written to the front of `into`.
-    pub fn objects<'b>(&self, into: &'b mut [Name; 2048]) -> &'b [Name]
-        ensures names { result.now ≡ map name (objects_listed (lines self.now)) }
-        ensures within { length result.now ≤ 2048 }
+    // The objects of all lines, in their order, are written to the front of `into`; how many there are. No slice of it: what is left
+    // in the buffer once that is gone, no proof knows.
+    pub fn objects(&self, into: &mut [Name; 2048]) -> usize
+        ensures within { result ≤ 2048 }
+        ensures after { take result into.new ≡ map name (objects_listed (lines self.now)) }
     {
         self.objects_where(|_| true, into)
     }
 
     // The same of the lines with this number.
-    pub fn objects_in<'b>(&self, census: Census, into: &'b mut [Name; 2048]) -> &'b [Name]
-        ensures names { result.now ≡ map name (objects_in census.0 (lines self.now)) }
-        ensures within { length result.now ≤ 2048 }
+    pub fn objects_in(&self, census: Census, into: &mut [Name; 2048]) -> usize
+        ensures within { result ≤ 2048 }
+        ensures after { take result into.new ≡ map name (objects_in census.0 (lines self.now)) }
     {
         self.objects_where(|line| line.census == census, into)
     }
 
-    // The objects of the lines that pass the test, in their order, written to the front of `into`.
-    fn objects_where<'b, F: Fn(Line) -> bool>(
-        &self,
-        takes: F,
-        into: &'b mut [Name; 2048],
-    ) -> &'b [Name]
+    // The objects of the lines that pass the test, in their order, are written to the front of `into`; how many there are.
+    fn objects_where<F: Fn(Line) -> bool>(&self, takes: F, into: &mut [Name; 2048]) -> usize
         requires { F.IsAlwaysCallable takes }
-        ensures within { length result.now ≤ 2048 }
-        ensures names { (p : _) → Decides (F.post takes) p → result.now ≡ map (λ e. name e.object) (filter p (lines self.now)) }
+        ensures within { result ≤ 2048 }
+        ensures after { (p : _) → Decides (F.post takes) p → take result into.new ≡ map (λ e. name e.object) (filter p (lines self.now)) }
     {
         let mut count = 0;
         // by place: a line's parts lie in four columns, so an iterator of lines would count places too
@@ -96,7 +93,7 @@ impl Lines<'_> {
                 count += 1;
             }
         }
-        &into[..count]
+        count
     }
 
     // Lines with another number go, the others close up in order.

@@ -143,8 +143,10 @@ fn a_census(rt: HostRuntime) {
     list.join(Census(1), &seen);
     assert!(rt; list.mark(Name(32), House(1), Census(1)));
     let mut names = [Name(0); 2048];
-    assert!(rt; list.objects(&mut names) == [Name(16), Name(32), Name(48)].as_slice());
-    assert!(rt; list.objects_in(Census(1), &mut names) == [Name(32), Name(48)].as_slice());
+    let count = list.objects(&mut names);
+    assert!(rt; names[..count] == [Name(16), Name(32), Name(48)]);
+    let count = list.objects_in(Census(1), &mut names);
+    assert!(rt; names[..count] == [Name(32), Name(48)]);
     list.sweep(Census(1));
     assert!(rt;
         list.len() == 2 && is_line(&list, 0, 32, 1, 2, 1) && is_line(&list, 1, 48, 2, 1, 1)

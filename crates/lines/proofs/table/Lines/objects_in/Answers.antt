@@ -3,5 +3,5 @@ use Rattle.lines.specs.Lists.{lines}
 use Rattle.lines.proofs.Gathering.{names_in}
 use Rattle.lines.proofs.table.Lines.objects_in.Goals as goal
 
-pub returns-clause-names : goal.returns-clause-names
-returns-clause-names c = c.objects_where.ensures.names (λ e. e.census == c.args.census.0) (λ e b k. search (rules, tests)) ∙ names_in c.args.census.0 (lines c.args.self.now)
+pub returns-clause-after : goal.returns-clause-after
+returns-clause-after c = c.objects_where.ensures.after (λ e. e.census == c.args.census.0) (λ e b k. search (rules, tests)) ∙ names_in c.args.census.0 (lines c.args.self.now)

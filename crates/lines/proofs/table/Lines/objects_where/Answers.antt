@@ -11,5 +11,5 @@ loop-i-preserved g c =
       | else-takes w ↦ rw (w.into-is, w.count-is) (gathering_same c.loop-i.invariant _ c.row-line.ensures w.if-takes.ensures)
     ]
 
-pub returns-clause-names : goal.returns-clause-names
-returns-clause-names g c = λ p decided. gathering_all c.args.self.now.len c.loop-i.invariant c.loop-i-test.false c.loop-i.auto.i-end p decided
+pub returns-clause-after : goal.returns-clause-after
+returns-clause-after g c = λ p decided. gathering_all c.args.self.now.len c.loop-i.invariant c.loop-i-test.false c.loop-i.auto.i-end p decided
