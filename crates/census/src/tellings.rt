@@ -1,5 +1,5 @@
 ghost use Rattle.std.specs.Prelude.{◌≡◌, ◌+◌, ◌≤◌, true, [], ◌∷◌, ◌++◌, length, is_ok, IfOk, OnOk, if◌then◌else◌, vec_len, vec_capacity};
-ghost use Rattle.tables.specs.Model.{is_in, rising};
+ghost use Rattle.tables.specs.Model.{is_in, below, rising};
 ghost use Rattle.tables.specs.Shown.{numbers};
 ghost use Rattle.census.specs.Model.{names, settled, untold, unanswered, entered, entered_all};
 ghost use Rattle.census.specs.Shown.{told_of, names_in};
@@ -112,13 +112,25 @@ impl Tellings {
         }
     }
 
+    // Whether `o` is told, if `at` is the place that it has or would have.
+    fn stands(&self, at: usize, o: Name) -> bool
+        requires { at ≡ below o.0 (names_in self.now.entries.items) }
+        ensures { result ≡ is_in o.0 (names (told_of self.now.entries.items)) }
+    {
+        match self.entries.get(at) {
+            Some(told) => told.object == o,
+            None => false,
+        }
+    }
+
     // `o` is told, unless it was. There is room for it.
     fn enter(&mut self, o: Name)
         requires { vec_len self.old.entries + length (untold (o.0 ∷ []) (told_of self.old.entries.items)) ≤ vec_capacity self.old.entries }
         ensures after { told_of self.new.entries.items ≡ entered o.0 (told_of self.old.entries.items) }
         ensures room { vec_capacity self.old.entries ≤ vec_capacity self.new.entries }
     {
-        if self.has(o) {
+        let at = place_of(&self.entries, o);
+        if self.stands(at, o) {
             return;
         }
         let new = Told {
@@ -126,7 +138,7 @@ impl Tellings {
             state: Telling::Awaited,
         };
         // there is room, so this does not fail
-        let _ = self.entries.insert(place_of(&self.entries, o), new);
+        let _ = self.entries.insert(at, new);
     }
 
     // The told that are not answered go to the end of a list that has room for them.

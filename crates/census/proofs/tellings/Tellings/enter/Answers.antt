@@ -13,16 +13,16 @@ use Rattle.census.proofs.Entering.{entered_in, untold_one, rising_entered}
 use Rattle.census.proofs.Tabled.{names_told, table_entered}
 use Rattle.census.proofs.tellings.Tellings.enter.Goals as goal
 
-pub returns-then-has-clause-after : goal.returns-then-has-clause-after
-returns-then-has-clause-after c =
+pub returns-then-stands-clause-after : goal.returns-then-stands-clause-after
+returns-then-stands-clause-after c =
     let ts = c.args.self.now.entries.items in
-    sym (entered_in c.args.o.0 (told_of ts) (ap rising (names_told ts) ∙ c.args.self.now.ordered) (sym c.if-has.ensures))
+    sym (entered_in c.args.o.0 (told_of ts) (ap rising (names_told ts) ∙ c.args.self.now.ordered) (sym c.if-stands.ensures))
 
 pub insert-requires : goal.insert-requires
 insert-requires c =
     let ts = c.args.self.now.entries.items in
     let b = below_within c.args.o.0 (names_in ts) in
-    let k : c.place.result ≡ below c.args.o.0 (names_in ts) = subst (λ xs. c.place.result ≡ below c.args.o.0 (names_in xs)) c.deref.ensures.value c.place.ensures in
+    let k : c.place-at.result ≡ below c.args.o.0 (names_in ts) = subst (λ xs. c.place-at.result ≡ below c.args.o.0 (names_in xs)) c.deref.ensures.value c.place-at.ensures in
     omega (arith, k, b, length-map ts name_in, c.deref.ensures.len, ap length c.deref.ensures.value)
 
 abbrev new : Name → Told
@@ -42,12 +42,12 @@ module _ (o : Name) (at : ℕ) (ts read : List Told) (out : false ≡ is_in o.0 
 pub invariant_of-self : goal.invariant_of-self
 invariant_of-self c =
     let v = c.args.self.now.entries in
-    let room = fits c.args.o.0 (vec_len v) (vec_capacity v) v.items c.if-has.ensures c.requires in
-    let rises = put_rises c.args.o c.place.result v.items c.deref.result.now c.if-has.ensures c.deref.ensures.value c.place.ensures in
+    let room = fits c.args.o.0 (vec_len v) (vec_capacity v) v.items c.if-stands.ensures c.requires in
+    let rises = put_rises c.args.o c.place-at.result v.items c.deref.result.now c.if-stands.ensures c.deref.ensures.value c.place-at.ensures in
     record { ordered = rises (is_ok c.insert.result) c.insert.new.self.items (c.insert.ensures.succeeds room) c.insert.ensures.items c.args.self.now.ordered }
 
 pub returns-clause-after : goal.returns-clause-after
 returns-clause-after c =
     let v = c.args.self.now.entries in
-    let room = fits c.args.o.0 (vec_len v) (vec_capacity v) v.items c.if-has.ensures c.requires in
-    put c.args.o c.place.result v.items c.deref.result.now c.if-has.ensures c.deref.ensures.value c.place.ensures (is_ok c.insert.result) c.insert.new.self.items (c.insert.ensures.succeeds room) c.insert.ensures.items
+    let room = fits c.args.o.0 (vec_len v) (vec_capacity v) v.items c.if-stands.ensures c.requires in
+    put c.args.o c.place-at.result v.items c.deref.result.now c.if-stands.ensures c.deref.ensures.value c.place-at.ensures (is_ok c.insert.result) c.insert.new.self.items (c.insert.ensures.succeeds room) c.insert.ensures.items
