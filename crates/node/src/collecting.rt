@@ -24,8 +24,8 @@ impl Head {
         ensures { Steps result collect (house_of self objects.old list.now) objects.new list.now }
     {
         let mut names = [Name(0); 2048];
-        let listed = list.objects(&mut names);
-        objects.collect(listed);
+        let count = list.objects(&mut names);
+        objects.collect(&names[..count]);
         (self, Ok(Sent::Nothing))
     }
 
@@ -48,8 +48,8 @@ impl Head {
     {
         let census = self.standing.census();
         let mut names = [Name(0); 2048];
-        let listed = tables.list.objects_in(census, &mut names);
-        let Ok(in_use) = met_from(self.heap, tables.objects, listed) else {
+        let count = tables.list.objects_in(census, &mut names);
+        let Ok(in_use) = met_from(self.heap, tables.objects, &names[..count]) else {
             return (self, Err(Fault::NoMemory));
         };
         let (standing, due) = self.standing.tell(&in_use);
@@ -65,8 +65,10 @@ impl Head {
         ensures { result ≡ all_told (used (house_lent self.now tables.now)) (part_of self.now.standing) }
     {
         let mut names = [Name(0); 2048];
-        let listed = tables.list.objects_in(self.standing.census(), &mut names);
-        tables.objects.uses_only(listed, self.standing.told())
+        let count = tables.list.objects_in(self.standing.census(), &mut names);
+        tables
+            .objects
+            .uses_only(&names[..count], self.standing.told())
     }
 
     // A round of a census, which is joined first if it is above the own: the house says whether it is calm.

@@ -150,9 +150,12 @@ impl Head {
             return (self, Err(Refusal::OtherCensus.into()));
         }
         let mut head = self.catch_up(tables.list, census);
-        if tables.list.mark(object, from, census) {
-            head.standing = head.standing.counted(Marked::New);
-        }
+        let line = if tables.list.mark(object, from, census) {
+            Marked::New
+        } else {
+            Marked::Again
+        };
+        head.standing = head.standing.counted(line);
         let answer = Message::Answer {
             census,
             object,

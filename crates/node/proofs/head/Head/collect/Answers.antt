@@ -1,4 +1,4 @@
-use Rattle.std.proofs.Common.{[], sym, ap, ◌∙◌}
+use Rattle.std.proofs.Common.{[], sym, ap, ◌∙◌, take}
 use Rattle.tables.specs.Shown.{numbers}
 use Rattle.objects.specs.Calls.{heap_of}
 use Rattle.objects.specs.Executed.{collected}
@@ -15,8 +15,8 @@ pub returns : goal.returns
 returns c =
     let h = house_of c.args.self c.args.objects.now c.args.list.now in
     let t = c.args.objects.now in
-    let from = numbers c.objects-listed.result.now in
+    let from = numbers (take c.objects-count.result c.objects-count.new.into) in
     let here = collects (heap_of t) from (ordered t) in
     ap (λ x. sends [] (with_heap x h))
-    (ap (λ l. collected l (heap_of t)) (sym (back _ (objects_listed (lines c.args.list.now)) c.objects-listed.ensures.names))
+    (ap (λ l. collected l (heap_of t)) (sym (back _ (objects_listed (lines c.args.list.now)) c.objects-count.ensures.after))
     ∙ c.collect.ensures.lasting.sole (collected from (heap_of t)) here)

@@ -1,4 +1,4 @@
-use Rattle.std.proofs.Common.{List, ℕ, ap, ◌∙◌}
+use Rattle.std.proofs.Common.{List, ℕ, ap, ◌∙◌, take}
 use Rattle.std.specs.List.{list_all}
 use Rattle.tables.specs.Model.{is_in}
 use Rattle.tables.specs.Shown.{numbers}
@@ -18,6 +18,6 @@ returns c =
     let h = house_lent c.args.self.now t in
     let ts = (part_of c.args.self.now.standing).told in
     c.uses_only.ensures
-    ∙ ap (λ (ns : List ℕ). list_all (λ o. is_in o ns) (names_in_use (numbers c.objects_in-listed.result.now) (heap_of t.objects.now))) c.told.ensures.names
-    ∙ ap (list_all (λ o. is_in o (names ts))) (in_use_of h c.census.result c.objects_in-listed.result.now c.census.ensures c.objects_in-listed.ensures.names)
+    ∙ ap (λ (ns : List ℕ). list_all (λ o. is_in o ns) (names_in_use (numbers (take c.objects_in-count.result c.objects_in-count.new.into)) (heap_of t.objects.now))) c.told.ensures.names
+    ∙ ap (list_all (λ o. is_in o (names ts))) (in_use_of h c.census.result (take c.objects_in-count.result c.objects_in-count.new.into) c.census.ensures c.objects_in-count.ensures.after)
     ∙ told_all (used h) ts
