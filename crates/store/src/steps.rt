@@ -36,23 +36,10 @@ impl Store {
         })
     }
 
-    // A call of the house's programs, or of its collector.
+    // A call of the house's programs, or of its collector. It and `got` do the same but for what they ask of the head: with that in one
+    // function of both the head would be moved once more on its way in, and once more out, at every step.
     pub fn call(&mut self, call: Call) -> Answer
         ensures step { Answers result (event_of call) (house_in self.old) (house_in self.new) }
-    {
-        self.step(Event::Call(call))
-    }
-
-    // These bytes came to the house, whatever they are.
-    pub fn got(&mut self, bytes: &[u8]) -> Answer
-        ensures step { Answers result (came bytes.now) (house_in self.old) (house_in self.new) }
-    {
-        self.step(Event::Came(bytes))
-    }
-
-    // Whatever happens at the house: the tables are lent to its head for one step.
-    pub fn step(&mut self, event: Event) -> Answer
-        ensures { Answers result (event_in event.entry) (house_in self.old) (house_in self.new) }
     {
         let head = std::mem::replace(&mut self.head, Head::new(self.heap));
         let mut list = Lines {
@@ -69,10 +56,47 @@ impl Store {
             objects: &mut self.objects,
             list: &mut list,
         };
-        let (head, answer) = event.at(head, &mut tables);
+        let (head, answer) = head.call(&mut tables, call);
         let len = list.len;
         self.len = len;
         self.head = head;
         answer
+    }
+
+    // These bytes came to the house, whatever they are.
+    pub fn got(&mut self, bytes: &[u8]) -> Answer
+        ensures step { Answers result (came bytes.now) (house_in self.old) (house_in self.new) }
+    {
+        let head = std::mem::replace(&mut self.head, Head::new(self.heap));
+        let (home, houses) = (self.objects.home(), self.objects.houses());
+        let mut list = Lines {
+            objects: &mut self.held,
+            holders: &mut self.holders,
+            stamps: &mut self.stamps,
+            censuses: &mut self.censuses,
+            len: self.len,
+            room: 2048,
+            home,
+            houses,
+        };
+        let mut tables = Tables {
+            objects: &mut self.objects,
+            list: &mut list,
+        };
+        let (head, answer) = head.got(&mut tables, bytes);
+        let count = list.len;
+        self.len = count;
+        self.head = head;
+        answer
+    }
+
+    // Whatever happens at the house.
+    pub fn step(&mut self, event: Event) -> Answer
+        ensures { Answers result (event_in event.entry) (house_in self.old) (house_in self.new) }
+    {
+        match event {
+            Event::Call(call) => self.call(call),
+            Event::Came(bytes) => self.got(bytes),
+        }
     }
 }
