@@ -1,12 +1,10 @@
 -- Hexadecimal digits two by two.
-use Rattle.std.proofs.Common.{◌≡◌, ℕ, suc, ◌+◌, ◌-◌, ◌*◌, ◌/◌, ◌%◌, ◌<◌, ◌≤◌, true, false, cond, eqb, ltb, List, [], ◌∷◌, ◌++◌, length, get_or, take, drop, Some, None, Option, Ok, Err, Result, OkIff, option_map, sym, refl, ap, ◌∙◌, ⊎_elim, append_assoc, append-nil, arith}
+use Rattle.std.proofs.Common.{◌≡◌, ℕ, suc, ◌+◌, ◌-◌, ◌*◌, ◌/◌, ◌%◌, ◌<◌, ◌≤◌, true, false, cond, eqb, ltb, List, [], ◌∷◌, ◌++◌, length, get_or, take, drop, Some, None, Option, Ok, Err, Result, OkIff, sym, refl, ap, ◌∙◌, ⊎_elim, append_assoc, append-nil, arith}
 use native.Mathlib.Nat.{add-div_left}
 use Rattle.std.proofs.lemmas.List.{take_all, take_more, at_drop_more, at_drop_all}
-use Rattle.std.proofs.lemmas.Bool.{eqb-true, eqb-false, lt-ltb, le-ltb, le-leb, lt-leb, cases_lt}
+use Rattle.std.proofs.lemmas.Bool.{eqb-true, eqb-false, lt-ltb, le-ltb, le-leb, lt-leb, cases_lt, cond_both}
 use Rattle.std.proofs.lemmas.Bool.Decides.{nat_tests}
 use Rattle.std.specs.Simd.{first_chunks}
-use Rattle.std.proofs.lemmas.Fmt.{hex_byte}
-use Rattle.std.specs.Fmt.{AppendsText, digits, format_spec, padded_integral}
 use Rattle.std.specs.Char.{digit_value}
 use Rattle.std.specs.Result.{result_ok}
 use Rattle.text.specs.Hex.{digit_of, byte_of, hex_of, before, after, char_of, hex_text, ReadsBack}
@@ -79,19 +77,21 @@ unfolding hex_text
 hex_text_none s = sym (append-nil s)
 
 -- two digits more
-pub written : (bs : List ℕ) (i : ℕ) (base s t : List ℕ) → i < length bs → s ≡ base ++ hex_text (take i bs) → t ≡ s ++ hex_text (get_or bs i 0 ∷ []) → t ≡ base ++ hex_text (take (i + 1) bs)
-written bs i base s t h p q =
-    let last : hex_text (take (i + 1) bs) ≡ hex_text (take i bs) ++ hex_text (get_or bs i 0 ∷ []) = ap hex_text (take_more bs i 0 h) ∙ hex_text_append (take i bs) (get_or bs i 0 ∷ []) in
-    q ∙ rw p (append_assoc base (hex_text (take i bs)) (hex_text (get_or bs i 0 ∷ []))) ∙ ap (λ z. base ++ z) (sym last)
-
--- what is printed of a byte
-pub printed : (old new : List ℕ) (shown : Option (List ℕ)) (n : ℕ) → shown ≡ Some (digits 16 false n) → n < 256 → AppendsText old new (option_map (padded_integral (format_spec 32 0 4 2 18446744073709551615) false []) shown) → new ≡ old ++ hex_text (n ∷ [])
-printed old new shown n e h t =
-    let w : new ≡ old ++ padded_integral (format_spec 32 0 4 2 18446744073709551615) false [] (digits 16 false n) = rw e at t in
-    w ∙ ap (λ x. old ++ x) (hex_byte false n h ∙ sym (hex_text_one n))
+pub pushed :
+    (bs : List ℕ) (i : ℕ) (base s t u e f : List ℕ) → i < length bs → s ≡ base ++ hex_text (take i bs) → t ≡ s ++ e → e ≡ char_of (get_or bs i 0 / 16) ∷ [] → u ≡ t ++ f →
+    f ≡ char_of (get_or bs i 0 % 16) ∷ [] → u ≡ base ++ hex_text (take (i + 1) bs)
+pushed bs i base s t u e f h p q r v w =
+    let x : ℕ = char_of (get_or bs i 0 / 16) in
+    let y : ℕ = char_of (get_or bs i 0 % 16) in
+    let more : hex_text (take (i + 1) bs) ≡ hex_text (take i bs) ++ (x ∷ y ∷ []) = ap hex_text (take_more bs i 0 h) ∙ hex_text_append (take i bs) (get_or bs i 0 ∷ []) ∙ ap (λ z. hex_text (take i bs) ++ z) (hex_text_one (get_or bs i 0)) in
+    let all : u ≡ ((base ++ hex_text (take i bs)) ++ (x ∷ [])) ++ (y ∷ []) = rw (v, w, q, r, p) in
+    all ∙ append_assoc (base ++ hex_text (take i bs)) (x ∷ []) (y ∷ []) ∙ append_assoc base (hex_text (take i bs)) (x ∷ y ∷ []) ∙ ap (λ z. base ++ z) (sym more)
 
 pub hex_text_all : (bs : List ℕ) (i : ℕ) → length bs ≤ i → hex_text (take i bs) ≡ hex_text bs
 hex_text_all bs i h = ap hex_text (take_all i bs h)
+
+pub char_small : (n : ℕ) → n < 16 → char_of n < 128
+char_small n h = cond_both (ltb n 10) (48 + n) (87 + n) (λ x. x < 128) (λ _. omega arith) (λ _. omega arith)
 
 -- a digit that was written has its value
 digit_back : (n : ℕ) → n < 16 → digit_of (char_of n) ≡ Some n
